@@ -1,0 +1,36 @@
+-- Laws of tests: going by cases on a Bool, and taking a conjunction apart. Assumes nothing.
+use Prim.Native.Nat.{ℕ, _≤_, _<_}
+use native.Mathlib.Omega.{arith}
+use mathlib.Core.Path.{_≡_, refl, ap}
+use mathlib.Core.Bool.{Bool, true, false, _&&_, cond}
+
+pub cases {ℓ} : {P : Type ℓ} (b : Bool) → (b ≡ true → P) → (b ≡ false → P) → P
+cases true f g = f refl
+cases false f g = g refl
+
+-- a test is not both
+pub clash {ℓ} : {P : Type ℓ} {b : Bool} → b ≡ true → b ≡ false → P
+clash h k = absurd (let z : _≡_ {A = ℕ} 0 1 = cc in omega arith)
+
+pub split : (p q : Bool) → (p && q) ≡ true → (p ≡ true) × (q ≡ true)
+split true q h = (refl, h)
+split false q h = clash h refl
+
+pub both : (p q : Bool) → p ≡ true → q ≡ true → (p && q) ≡ true
+both p q e f = rw (e, f)
+
+-- two tests that follow from each other are equal
+pub iff : (p q : Bool) → (p ≡ true → q ≡ true) → (q ≡ true → p ≡ true) → p ≡ q
+iff true true f g = refl
+iff true false f g = clash (f refl) refl
+iff false true f g = clash (g refl) refl
+iff false false f g = refl
+
+-- a test as a number
+abbrev pub one : Bool → ℕ
+one true = 1
+one false = 0
+
+pub one-le : (p : Bool) → one p ≤ 1
+one-le true = omega arith
+one-le false = omega arith

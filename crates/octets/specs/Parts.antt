@@ -35,6 +35,11 @@ pub part-none : (b : List ℕ) (o : ℕ) → part b o 0 ≡ []
 unfolding part
 part-none b o = refl
 
+-- what the code's `&s[o..e]` shows
+pub part-of : (b : List ℕ) (o e n : ℕ) → e - o ≡ n → take (e - o) (drop o b) ≡ part b o n
+unfolding part
+part-of b o e n h = ap (λ (k : ℕ). take k (drop o b)) h
+
 -- the part that stands behind x
 pub part-skip : (x y : List ℕ) (n o m : ℕ) → length x ≡ n → part (x ++ y) (n + o) m ≡ part y o m
 unfolding part

@@ -1,0 +1,96 @@
+// A run: outgoing packets, each behind its byte count, its from-address and its to-address. Bytes past what is written stay.
+
+ghost use mathlib.Core.Path.{_≡_};
+ghost use mathlib.Core.List.{_++_};
+ghost use Prim.Native.Nat.{_+_, _<_, _≤_};
+ghost use lib.ListN.{length};
+ghost use Rattle.octets.specs.Octets.{put, be};
+ghost use Rattle.packet.specs.Outgoing.{entry, Room, initPacket, chunkPacket, donePacket, header, replyPacket};
+
+// Places in an entry.
+pub const FROM: usize = 2;
+
+pub const TO: usize = FROM + 16;
+
+pub const PACKET: usize = TO + 16;
+
+// What stands before a packet of n bytes, written at a.
+fn put_front(run: &mut [u8], a: usize, from: &[u8], to: &[u8], n: usize)
+    requires { ⌜ Room (now run) a (now from) (now to) n ⌝ }
+    ensures { λ _. ⌜ now (run .exit) ≡ put (now (run .entry)) a (be 2 n ++ now (from .entry) ++ now (to .entry)) ⌝ }
+{
+    octets::put16(run, a, n as u64);
+    octets::copy_in(run, a + FROM, from);
+    octets::copy_in(run, a + TO, to);
+}
+
+// The entry of an init.
+pub fn put_init(
+    run: &mut [u8],
+    a: usize,
+    from: &[u8],
+    to: &[u8],
+    id: &[u8],
+    reply: bool,
+    size: u64,
+    topic: &[u8],
+)
+    requires { ⌜ Room (now run) a (now from) (now to) (21 + length (now topic)) ⌝ }
+    requires { ⌜ (length (now id) ≡ 8) × (length (now topic) < 256) ⌝ }
+    ensures { λ _. ⌜ now (run .exit) ≡ put (now (run .entry)) a (entry (now (from .entry)) (now (to .entry)) (initPacket (now (id .entry)) reply size (now (topic .entry)))) ⌝ }
+{
+    put_front(run, a, from, to, 21 + topic.len());
+    crate::init::MessageInit::put(run, a + PACKET, id, reply, size, topic);
+}
+
+// The entry of a chunk.
+pub fn put_chunk(
+    run: &mut [u8],
+    a: usize,
+    from: &[u8],
+    to: &[u8],
+    id: &[u8],
+    index: u64,
+    offset: u64,
+    piece: &[u8],
+)
+    requires { ⌜ Room (now run) a (now from) (now to) (36 + length (now piece)) ⌝ }
+    requires { ⌜ length (now id) ≡ 8 ⌝ }
+    ensures { λ _. ⌜ now (run .exit) ≡ put (now (run .entry)) a (entry (now (from .entry)) (now (to .entry)) (chunkPacket (now (id .entry)) index offset (now (piece .entry)))) ⌝ }
+{
+    put_front(run, a, from, to, 36 + piece.len());
+    crate::chunk::MessageChunk::put(run, a + PACKET, id, index, offset, piece);
+}
+
+// The entry of a done.
+pub fn put_done(run: &mut [u8], a: usize, from: &[u8], to: &[u8], id: &[u8], count: u64, sum: &[u8])
+    requires { ⌜ Room (now run) a (now from) (now to) 52 ⌝ }
+    requires { ⌜ (length (now id) ≡ 8) × (length (now sum) ≡ 32) ⌝ }
+    ensures { λ _. ⌜ now (run .exit) ≡ put (now (run .entry)) a (entry (now (from .entry)) (now (to .entry)) (donePacket (now (id .entry)) count (now (sum .entry)))) ⌝ }
+{
+    put_front(run, a, from, to, 52);
+    crate::done::MessageDone::put(run, a + PACKET, id, count, sum);
+}
+
+// The entry of a packet that is a header alone: aborted and read.
+pub fn put_header(run: &mut [u8], a: usize, from: &[u8], to: &[u8], id: &[u8], flags: u8)
+    requires { ⌜ Room (now run) a (now from) (now to) 12 ⌝ }
+    requires { ⌜ length (now id) ≡ 8 ⌝ }
+    ensures { λ _. ⌜ now (run .exit) ≡ put (now (run .entry)) a (entry (now (from .entry)) (now (to .entry)) (header (now (id .entry)) flags)) ⌝ }
+{
+    put_front(run, a, from, to, crate::header::SIZE);
+    crate::header::put(run, a + PACKET, id, flags);
+}
+
+// The entry of a reply: the frame's first n bytes with the ack flag set.
+pub fn put_reply(run: &mut [u8], a: usize, from: &[u8], to: &[u8], frame: &[u8], n: usize)
+    requires { ⌜ Room (now run) a (now from) (now to) n ⌝ }
+    requires { ⌜ (9 ≤ n) × (n ≤ length (now frame)) ⌝ }
+    ensures { λ _. ⌜ now (run .exit) ≡ put (now (run .entry)) a (entry (now (from .entry)) (now (to .entry)) (replyPacket n (now (frame .entry)))) ⌝ }
+{
+    put_front(run, a, from, to, n);
+    let flags = [crate::header::flags(frame) | crate::header::FLAG_ACK];
+    octets::copy_in(run, a + PACKET, &frame[0..8]);
+    octets::copy_in(run, a + PACKET + 8, &flags);
+    octets::copy_in(run, a + PACKET + 9, &frame[9..n]);
+}

@@ -1,0 +1,29 @@
+-- A node's address from its key: document 01, `PublicKey::address`.
+use Prim.Native.Nat.{ℕ, _%_}
+use mathlib.Core.Bool.{Bool, cond}
+use mathlib.Core.List.{List, [], _∷_, _++_}
+use lib.ListN.{length, getD}
+use lib.Dec.{eqb, leb}
+use lib.Bits.{bitOr}
+use lib.Count.{ones}
+use Rattle.octets.specs.Octets.{part, put}
+use Rattle.blake3.specs.Tree.{blake3}
+
+-- "byte 0 becomes 4 | (its ones modulo 2)"
+abbrev pub firstByte : ℕ → ℕ
+firstByte x = bitOr 4 (ones x % 2)
+
+-- "16 BLAKE3 bytes of the key", the first of them changed
+unfoldable pub addressBytes : List ℕ → List ℕ
+addressBytes key = (firstByte (getD (blake3 key) 0 0) ∷ []) ++ part (blake3 key) 1 15
+
+pub record AddressOutcome : Type 0 where
+  pub number : ℕ
+  pub out : List ℕ
+
+-- address 1, 2: a key that is not 32 bytes, a buffer under 16; else the address at the buffer's start
+unfoldable pub addressOf : List ℕ → List ℕ → AddressOutcome
+addressOf key out =
+    cond (eqb (length key) 32)
+    (cond (leb 16 (length out)) (record { number = 0; out = put out 0 (addressBytes key) }) (record { number = 2; out = out }))
+    (record { number = 1; out = out })

@@ -1,0 +1,5 @@
+pub mod Words
+pub mod Rounds
+pub mod Compression
+pub mod Tree
+pub mod Laws

@@ -1,0 +1,170 @@
+// Chunks, parents, and the tree of them.
+ghost use mathlib.Core.Path.{_≡_};
+ghost use Prim.Native.Nat.{_+_, _*_, _<_, _≤_, _^_};
+ghost use lib.ListN.{length};
+ghost use Rattle.blake3.specs.Words.{word};
+ghost use Rattle.blake3.specs.Tree.{wordAt, blockAt, chunkNode, parentNode, node, Left};
+use super::node::Node;
+use super::node::chaining;
+
+// The bytes of a block and of a chunk.
+const BLOCK: usize = 64;
+
+const CHUNK: usize = 1024;
+
+// The flags of a chunk's first block, of its last block, and of a parent.
+const CHUNK_START: u32 = 1;
+
+const CHUNK_END: u32 = 2;
+
+const PARENT: u32 = 4;
+
+// A byte as a word.
+fn wide(x: u8) -> u32
+    ensures { λ r. ⌜ (r ≡ x) × (r < 256) ⌝ }
+{
+    x as u32
+}
+
+// The byte at p, and 0 past the end.
+fn byte_at(s: &[u8], p: usize) -> u32
+    ensures { λ r. ⌜ (r ≡ word (now (s .entry)) p) × (r < 256) ⌝ }
+{
+    if p < s.len() { wide(s[p]) } else { 0 }
+}
+
+// The word of four bytes, the lowest first.
+fn join(a: u32, b: u32, c: u32, d: u32) -> u32
+    requires { ⌜ (a < 256) × (b < 256) × (c < 256) × (d < 256) ⌝ }
+    ensures { λ r. ⌜ r ≡ a + 2 ^ 8 * b + 2 ^ 16 * c + 2 ^ 24 * d ⌝ }
+{
+    a + 0x100 * b + 0x1_0000 * c + 0x100_0000 * d
+}
+
+// The word at p.
+fn word_at(s: &[u8], p: usize) -> u32
+    requires { ⌜ p < 2048 ⌝ }
+    ensures { λ r. ⌜ r ≡ wordAt (now (s .entry)) p ⌝ }
+{
+    if p + 4 <= s.len() {
+        return join(wide(s[p]), wide(s[p + 1]), wide(s[p + 2]), wide(s[p + 3]));
+    }
+    join(
+        byte_at(s, p),
+        byte_at(s, p + 1),
+        byte_at(s, p + 2),
+        byte_at(s, p + 3),
+    )
+}
+
+// The sixteen words of block i.
+fn block_at(s: &[u8], i: usize) -> [u32; 16]
+    requires { ⌜ i ≤ 16 ⌝ }
+    ensures { λ r. ⌜ r ≡ blockAt (now (s .entry)) i ⌝ }
+{
+    let p = BLOCK * i;
+    [
+        word_at(s, p),
+        word_at(s, p + 4),
+        word_at(s, p + 8),
+        word_at(s, p + 12),
+        word_at(s, p + 16),
+        word_at(s, p + 20),
+        word_at(s, p + 24),
+        word_at(s, p + 28),
+        word_at(s, p + 32),
+        word_at(s, p + 36),
+        word_at(s, p + 40),
+        word_at(s, p + 44),
+        word_at(s, p + 48),
+        word_at(s, p + 52),
+        word_at(s, p + 56),
+        word_at(s, p + 60),
+    ]
+}
+
+// The node of the chunk s, which is chunk t of the input.
+fn chunk_node(key: [u32; 8], mode: u32, s: &[u8], t: u64) -> Node
+    requires { ⌜ length (now s) ≤ 1024 ⌝ }
+    ensures { λ r. ⌜ r ≡ chunkNode key mode (now (s .entry)) t ⌝ }
+{
+    let mut h = key;
+    let mut f = mode | CHUNK_START;
+    let mut i: usize = 0;
+    while BLOCK * i + BLOCK < s.len() {
+        let g = chaining(Node {
+            input: h,
+            block: block_at(s, i),
+            counter: t,
+            size: 64,
+            flags: f,
+        });
+        h = g;
+        f = mode;
+        i += 1;
+    }
+    Node {
+        input: h,
+        block: block_at(s, i),
+        counter: t,
+        size: (s.len() - BLOCK * i) as u32,
+        flags: f | CHUNK_END,
+    }
+}
+
+// The parent of two nodes with the chaining values l and r.
+fn parent_node(key: [u32; 8], mode: u32, l: [u32; 8], r: [u32; 8]) -> Node
+    ensures { λ n. ⌜ n ≡ parentNode key mode l r ⌝ }
+{
+    Node {
+        input: key,
+        block: [
+            l[0],
+            l[1],
+            l[2],
+            l[3],
+            l[4],
+            l[5],
+            l[6],
+            l[7],
+            r[0],
+            r[1],
+            r[2],
+            r[3],
+            r[4],
+            r[5],
+            r[6],
+            r[7],
+        ],
+        counter: 0,
+        size: 64,
+        flags: mode | PARENT,
+    }
+}
+
+// The bytes of the left part of n bytes.
+fn left(n: usize) -> usize
+    requires { ⌜ 1024 < n ⌝ }
+    ensures { λ r. ⌜ Left n r ⌝ }
+{
+    let mut p = CHUNK;
+    while p < n - p {
+        p = 2 * p;
+    }
+    p
+}
+
+// The node over s, whose first chunk is chunk t of the input.
+pub fn subtree(key: [u32; 8], mode: u32, s: &[u8], t: u64) -> Node
+    requires { ⌜ t + length (now s) < 2 ^ 64 ⌝ }
+    ensures { λ r. ⌜ r ≡ node key mode (now (s .entry)) t ⌝ }
+{
+    let n = s.len();
+    if n <= CHUNK {
+        return chunk_node(key, mode, s, t);
+    }
+    let p = left(n);
+    let l = chaining(subtree(key, mode, &s[..p], t));
+    let r = chaining(subtree(key, mode, &s[p..], t + (p / CHUNK) as u64));
+    parent_node(key, mode, l, r)
+}

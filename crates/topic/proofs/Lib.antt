@@ -1,0 +1,2 @@
+mod Prefix
+mod Walk

@@ -1,0 +1,17 @@
+pub mod Limits
+pub mod Codes
+pub mod Values
+pub mod Tests
+pub mod Rows
+pub mod Chains
+pub mod Counting
+pub mod Layout
+pub mod Sound
+pub mod Find
+pub mod Refusals
+pub mod Pieces
+pub mod Receive
+pub mod Send
+pub mod Outcomes
+pub mod Calls
+pub mod Typed

@@ -1,0 +1,22 @@
+-- What the interface can pass: bytes are below 256, numbers below 2^64, an id has 8 bytes, an address 16. The calls ask nothing of their
+-- arguments; these facts hold of every argument that a byte slice or a number of the interface can carry.
+use Prim.Native.Nat.{ℕ, _<_}
+use Rattle.octets.specs.Octets.{Bytes, pow}
+use Rattle.machine.specs.Layout.{idWidth, addressWidth, numberWidth}
+use Rattle.machine.specs.Sound.{Exactly}
+use Rattle.machine.specs.Calls.{Packet, Push}
+
+pub record TypedPacket (p : Packet) : Type 0 where
+  pub frame : Bytes (p .frame)
+  pub from : Exactly addressWidth (p .from)
+  pub to : Exactly addressWidth (p .to)
+
+pub record TypedPush (p : Push) : Type 0 where
+  pub id : Exactly idWidth (p .id)
+  pub from : Exactly addressWidth (p .from)
+  pub to : Exactly addressWidth (p .to)
+  pub topic : Bytes (p .topic)
+  pub bytes : Bytes (p .bytes)
+
+abbrev pub TypedClock : ℕ → Type 0
+TypedClock clock = clock < pow numberWidth

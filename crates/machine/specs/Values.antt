@@ -1,0 +1,67 @@
+-- What a store holds, as a value: lists in the order of their chains, each record and cell with its place.
+use Prim.Native.Nat.{ℕ}
+use mathlib.Core.Bool.{Bool}
+use mathlib.Core.List.{List}
+use Rattle.octets.specs.Octets.{same}
+
+-- what an init says: alike in a record of a store and on a page of the ledger. `total` is document 01's length.
+pub record Head : Type 0 where
+  pub id : List ℕ
+  pub source : List ℕ
+  pub destination : List ℕ
+  pub reply : ℕ
+  pub total : ℕ
+  pub topic : List ℕ
+
+-- a piece in its cell; `stamp` and `state` are the sender's
+pub record Cell : Type 0 where
+  pub place : ℕ
+  pub index : ℕ
+  pub bytes : List ℕ
+  pub stamp : ℕ
+  pub state : ℕ
+
+-- what only the sender keeps of a record; created and end in milliseconds
+pub record Sending : Type 0 where
+  pub state : ℕ
+  pub timedOut : ℕ
+  pub created : ℕ
+  pub end : ℕ
+
+-- of a record that arrives or is whole: unused fields are zero
+abbrev pub idle : Sending
+idle = record { state = 0; timedOut = 0; created = 0; end = 0 }
+
+-- a record with its chain of cells, in index order
+pub record Rec : Type 0 where
+  pub place : ℕ
+  pub head : Head
+  pub slots : ℕ
+  pub sending : Sending
+  pub cells : List Cell
+
+-- what setup fixes: the cell count C and the role
+pub record Setup : Type 0 where
+  pub cells : ℕ
+  pub role : ℕ
+
+-- a store: free record places, held records (newest first), whole records (oldest first), free cell places
+pub record Store : Type 0 where
+  pub setup : Setup
+  pub free : List ℕ
+  pub held : List Rec
+  pub whole : List Rec
+  pub freeCells : List ℕ
+
+-- ---- what a record is found by
+
+-- ids unique: the key of a record is its id
+abbrev pub Key : Type 0
+Key = List ℕ
+
+abbrev pub keyOf : Head → Key
+keyOf h = h .id
+
+-- two keys are one
+unfoldable pub sameKey : Key → Key → Bool
+sameKey j k = same j k

@@ -1,9 +1,10 @@
-// Chunks, parents, and the tree of them.
+// Chunks, parents, and the tree of them. `key` are the key words and `mode` the flag bits of a mode: the plain sum has the
+// starting words and 0.
 ghost use mathlib.Core.Path.{_≡_};
 ghost use Prim.Native.Nat.{_+_, _*_, _<_, _≤_, _^_};
 ghost use lib.ListN.{length};
 ghost use Rattle.blake3.specs.Words.{word};
-ghost use Rattle.blake3.specs.Tree.{wordAt, blockAt, chunkNode, parentNode, node, Left};
+ghost use Rattle.blake3.specs.Tree.{chunkLen, wordAt, blockAt, chunkNode, parentNode, node, Left};
 use super::node::Node;
 use super::node::chaining;
 
@@ -62,30 +63,18 @@ fn block_at(s: &[u8], i: usize) -> [u32; 16]
     requires { ⌜ i ≤ 16 ⌝ }
     ensures { λ r. ⌜ r ≡ blockAt (now (s .entry)) i ⌝ }
 {
-    let p = BLOCK * i;
-    [
-        word_at(s, p),
-        word_at(s, p + 4),
-        word_at(s, p + 8),
-        word_at(s, p + 12),
-        word_at(s, p + 16),
-        word_at(s, p + 20),
-        word_at(s, p + 24),
-        word_at(s, p + 28),
-        word_at(s, p + 32),
-        word_at(s, p + 36),
-        word_at(s, p + 40),
-        word_at(s, p + 44),
-        word_at(s, p + 48),
-        word_at(s, p + 52),
-        word_at(s, p + 56),
-        word_at(s, p + 60),
-    ]
+    let mut m = [0u32; 16];
+    let mut k: usize = 0;
+    while k < 16 {
+        m[k] = word_at(s, BLOCK * i + 4 * k);
+        k += 1;
+    }
+    m
 }
 
 // The node of the chunk s, which is chunk t of the input.
 fn chunk_node(key: [u32; 8], mode: u32, s: &[u8], t: u64) -> Node
-    requires { ⌜ length (now s) ≤ 1024 ⌝ }
+    requires { ⌜ length (now s) ≤ chunkLen ⌝ }
     ensures { λ r. ⌜ r ≡ chunkNode key mode (now (s .entry)) t ⌝ }
 {
     let mut h = key;
@@ -96,7 +85,7 @@ fn chunk_node(key: [u32; 8], mode: u32, s: &[u8], t: u64) -> Node
             input: h,
             block: block_at(s, i),
             counter: t,
-            size: 64,
+            size: BLOCK as u32,
             flags: f,
         });
         h = g;
@@ -137,19 +126,19 @@ fn parent_node(key: [u32; 8], mode: u32, l: [u32; 8], r: [u32; 8]) -> Node
             r[7],
         ],
         counter: 0,
-        size: 64,
+        size: BLOCK as u32,
         flags: mode | PARENT,
     }
 }
 
-// The bytes of the left part of n bytes.
+// The bytes of the left part of n bytes: the largest power of two of chunks below n.
 fn left(n: usize) -> usize
-    requires { ⌜ 1024 < n ⌝ }
+    requires { ⌜ chunkLen < n ⌝ }
     ensures { λ r. ⌜ Left n r ⌝ }
 {
     let mut p = CHUNK;
     while p < n - p {
-        p = 2 * p;
+        p = p + p;
     }
     p
 }

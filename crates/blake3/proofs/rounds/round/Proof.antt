@@ -1,3 +1,4 @@
+-- `blake3::rounds::round` meets its contract: the columns, then the diagonals. Assumes nothing.
 use borrow.Author.Needs.{needs}
 use Rattle.blake3.specs.Rounds.{round}
 use Rattle.blake3.proofs.rounds.round.Statement.{statement}

@@ -1,3 +1,4 @@
+-- `blake3::rounds::rounds` meets its contract: the rounds that are left, from where the loop is, give the seven from the start. Assumes nothing.
 use borrow.Author.Needs.{needs}
 use mathlib.Core.Path.{_≡_, refl, sym, ap, _∙_}
 use mathlib.Core.List.{List}
@@ -13,7 +14,6 @@ Inv-loop v₀ w₀ i₀ v w i = (i ≤ 7) × (rounds (7 - i) v w ≡ rounds 7 v�
 abbrev μ-loop : tie.MeasureT-loop
 μ-loop v₀ w₀ i₀ v w i = 7 - i
 
--- src/rounds.rt:100:5
 -- one more round
 more : (v w : List ℕ) (i : ℕ) {a b x : List ℕ} → i < 7 → a ≡ round v w → b ≡ permute w → rounds (7 - i) v w ≡ x → rounds (7 - (i + 1)) a b ≡ x
 unfolding rounds
@@ -29,18 +29,6 @@ ends v w i l e = let q : 7 - i ≡ 0 = omega arith in sym (ap (λ (n : ℕ). rou
 loop-holds : tie.Need-loop-holds Inv-loop μ-loop
 loop-holds c = (search needs, refl)
 
-round-requires : tie.Need-round-requires Inv-loop μ-loop
-round-requires c κs = search needs
-
-permute-requires : tie.Need-permute-requires Inv-loop μ-loop
-permute-requires c κs = search needs
-
-add-i : tie.Need-add-i Inv-loop μ-loop
-add-i c = search needs
-
-loop-less : tie.Need-loop-less Inv-loop μ-loop
-loop-less c = search needs
-
 loop-again : tie.Need-loop-again Inv-loop μ-loop
 loop-again c =
     let l = c .before .before .before .loop in
@@ -52,4 +40,4 @@ returns c = let l = c .before .loop in ends (l .v) (l .w) (l .i) (omega arith) (
 pub rounds-spec : {M : Type 1} → statement M
 rounds-spec =
     tie.close
-    (tie.spec Inv-loop μ-loop loop-holds round-requires permute-requires add-i loop-less loop-again returns)
+    (tie.spec Inv-loop μ-loop loop-holds (λ c κs. search needs) (λ c κs. search needs) (λ c. search needs) (λ c. search needs) loop-again returns)

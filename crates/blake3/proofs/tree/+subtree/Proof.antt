@@ -6,7 +6,7 @@ use native.Mathlib.Omega.{arith}
 use native.Mathlib.Nat.{le-of-lt, le-of-eq}
 use lib.ListN.{length, take, drop, length-drop}
 use lib.Seq.{length-take-le, take-all}
-use Prim.Native.Nat.{ℕ, _+_, _-_, _/_, _<_, _≤_}
+use Prim.Native.Nat.{ℕ, _+_, _-_, _/_, _<_}
 use borrow.Fn.PlainCycle.{Measures, is, falls, and}
 use Rattle.blake3.specs.Compression.{chaining}
 use Rattle.blake3.specs.Tree.{parentNode, node, Left}

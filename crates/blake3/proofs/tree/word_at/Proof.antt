@@ -1,3 +1,4 @@
+-- `blake3::tree::word_at` meets its contract, on both ways: the definition's sum. Assumes nothing.
 use borrow.Author.Needs.{needs}
 use native.Mathlib.Omega.{arith}
 use Rattle.blake3.specs.Tree.{wordAt}

@@ -18,4 +18,3 @@ pub mod ValidBytes
 pub mod Fresh
 pub mod Write
 pub mod Keys
-pub mod Starred

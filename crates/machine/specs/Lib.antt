@@ -15,3 +15,5 @@ pub mod Send
 pub mod Outcomes
 pub mod Calls
 pub mod Typed
+pub mod Worked
+pub mod Starred

@@ -1,6 +1,6 @@
 -- The calls, each as one function from bytes and numbers to its outcome: the row of refusals in the "Order" line's order, and what happens
 -- where none holds. The contracts of the code cite setupOf, packetOf, pushOf, wakeOf, reportOf and takeOf.
-use Prim.Native.Nat.{ℕ, suc, _+_, _/_}
+use Prim.Native.Nat.{ℕ, _+_, _/_}
 use mathlib.Core.Bool.{Bool, true, false, cond, not, _&&_, _||_}
 use mathlib.Core.List.{List, [], _∷_, _++_, map}
 use mathlib.Core.Option.{Option, none, some}

@@ -1,9 +1,9 @@
 -- The pieces of a record: its cells, in index order.
-use Prim.Native.Nat.{ℕ, zero, suc, _+_, _*_}
-use mathlib.Core.Bool.{Bool, true, false, cond}
-use mathlib.Core.List.{List, [], _∷_, _++_, map}
-use mathlib.Core.Option.{Option, none, some}
-use lib.ListN.{length, take, drop}
+use Prim.Native.Nat.{ℕ, zero, suc, _+_}
+use mathlib.Core.Bool.{cond}
+use mathlib.Core.List.{List, [], _∷_, _++_}
+use mathlib.Core.Option.{Option}
+use lib.ListN.{take, drop}
 use lib.Dec.{eqb, ltb}
 use Rattle.machine.specs.Limits.{cutBy}
 use Rattle.machine.specs.Codes.{pieceStarted}

@@ -1,10 +1,10 @@
 -- What the office's store becomes: document 01, "Steps", init to aborted, and take. Each step is total: where its record is missing, nothing changes.
 use Prim.Native.Nat.{ℕ, suc, max}
-use mathlib.Core.Bool.{Bool, cond}
+use mathlib.Core.Bool.{cond}
 use mathlib.Core.List.{List, [], _∷_, _++_, map}
 use mathlib.Core.Option.{Option, none, some}
 use Rattle.machine.specs.Limits.{slotsOf}
-use Rattle.machine.specs.Values.{Head, Cell, Rec, Store, idle, Key, keyOf, sameKey}
+use Rattle.machine.specs.Values.{Head, Rec, Store, idle, Key, keyOf, sameKey}
 use Rattle.machine.specs.Chains.{first}
 use Rattle.machine.specs.Layout.{cellPlace}
 use Rattle.machine.specs.Find.{find, swap, without, isSome}

@@ -1,19 +1,19 @@
 -- What the tablet's store becomes, and what it sends: document 01, "Steps", push, acknowledgements, read and both wakes.
-use Prim.Native.Nat.{ℕ, suc, _+_, _*_}
-use mathlib.Core.Bool.{Bool, true, false, cond, _&&_, _||_}
+use Prim.Native.Nat.{ℕ, _+_, _*_}
+use mathlib.Core.Bool.{Bool, cond, _&&_, _||_}
 use mathlib.Core.List.{List, [], _∷_, _++_, map}
 use mathlib.Core.Option.{Option, none, some}
-use lib.ListN.{length, take, drop}
+use lib.ListN.{length, drop}
 use lib.Dec.{eqb, leb}
 use Rattle.octets.specs.Lists.{all}
 use Rattle.blake3.specs.Tree.{blake3}
 use Rattle.packet.specs.Outgoing.{entry, initPacket, chunkPacket, donePacket, abortedPacket}
 use Rattle.machine.specs.Limits.{cutBy, slotsOf}
-use Rattle.machine.specs.Codes.{stateInit, stateInProgress, stateReceived, stateRead, stateAborted, pieceStarted, pieceSent, pieceAcked}
-use Rattle.machine.specs.Values.{Head, Cell, Sending, Rec, Store, Key}
+use Rattle.machine.specs.Codes.{stateInit, stateInProgress, stateAborted, pieceStarted, pieceSent, pieceAcked}
+use Rattle.machine.specs.Values.{Head, Cell, Rec, Store, Key}
 use Rattle.machine.specs.Chains.{first}
 use Rattle.machine.specs.Pieces.{cutPieces, joined, rest}
-use Rattle.machine.specs.Receive.{found, replaced, recKey, dropAt}
+use Rattle.machine.specs.Receive.{found, replaced, dropAt}
 
 -- ---- rebuilding
 

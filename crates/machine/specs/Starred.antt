@@ -1,10 +1,10 @@
 -- The starred values of document 01, as one table of numbers that the definitions give and numbers that they should give.
 use Prim.Native.Nat.{ℕ, _+_}
 use mathlib.Core.Path.{_≡_, refl}
-use mathlib.Core.Bool.{Bool, true, false}
+use mathlib.Core.Bool.{true}
 use mathlib.Core.List.{List, [], _∷_, _++_}
 use mathlib.Core.Option.{Option, none, some}
-use lib.ListN.{replicate, length}
+use lib.ListN.{replicate}
 use lib.Dec.{eqb}
 use Rattle.octets.specs.Octets.{be, num, part, same}
 use Rattle.octets.specs.Bools.{one}
@@ -14,15 +14,15 @@ use Rattle.packet.specs.declared.header.Kind.the-variants.{Init, Chunk, Done, R
 use Rattle.packet.specs.Frame.{kindOf}
 use Rattle.machine.specs.Limits.{slotsOf, topOf}
 use Rattle.machine.specs.Codes.{roleReceive, pieceSent}
-use Rattle.machine.specs.Values.{Head, Cell, Rec, Store, sameKey}
+use Rattle.machine.specs.Values.{Head, Rec, Store, sameKey}
 use Rattle.machine.specs.Counting.{rise}
 use Rattle.machine.specs.Sound.{fresh}
 use Rattle.machine.specs.Find.{find, swap, isSome}
 use Rattle.machine.specs.Refusals.{refusal}
-use Rattle.machine.specs.Pieces.{newCell, pieceAt, putPiece}
+use Rattle.machine.specs.Pieces.{pieceAt, putPiece}
 use Rattle.machine.specs.Receive.{found, initAt, initStep, chunkAt, chunkStep}
 use Rattle.machine.specs.Send.{due}
-use Rattle.machine.specs.Calls.{Packet, initRow, chunkRow, doneRow, tooShort}
+use Rattle.machine.specs.Calls.{initRow, chunkRow, doneRow, tooShort}
 
 -- ---- a receive store of two cells after one init, and what a chunk and a done answer there
 

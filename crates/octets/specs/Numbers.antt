@@ -2,10 +2,9 @@
 -- and a number of several digits is made of two shorter ones. Assumes nothing.
 use Prim.Native.Nat.{ℕ, zero, suc, _+_, _*_, _-_, _/_, _%_, _≤_, _<_}
 use native.Mathlib.Omega.{arith}
-use native.Mathlib.Nat.{add-zero, mul-assoc, mul-comm}
 use mathlib.Core.Path.{_≡_, refl, sym, ap, _∙_}
 use mathlib.Core.List.{List, [], _∷_, _++_}
-use lib.ListN.{length, getD, take, drop, length-append, List·getD-append, List·getD-eq-default}
+use lib.ListN.{length, getD, take, length-append, List·getD-append}
 use lib.Seq.{take-suc, take-all, getD-at}
 use Rattle.octets.specs.Octets.{part, put, be, num, pow, Bytes}
 use Rattle.octets.specs.Parts.{getD-part, part-put-same, bytes-part, length-part}

@@ -5,7 +5,7 @@ use native.Mathlib.Nat.{add-assoc, zero-add, suc-add, add-zero}
 use native.Mathlib.Omega.{arith}
 use mathlib.Core.Path.{_≡_, refl, sym, ap, _∙_}
 use mathlib.Core.List.{List, [], _∷_, _++_, append-assoc, append-nil}
-use lib.ListN.{take-append-drop, length, getD, take, drop, length-append, length-take, length-drop, List·getD-eq-default}
+use lib.ListN.{take-append-drop, length, getD, take, drop, length-append, length-take, length-drop}
 use lib.Seq.{drop-append-le, take-append-add, drop-append-add, take-at, drop-at, take-all, take-add, take-take, drop-drop, length-take-le, take-nil, drop-nil, getD-take, getD-drop}
 use Rattle.octets.specs.Octets.{part, put, Bytes}
 

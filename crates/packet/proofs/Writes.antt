@@ -4,13 +4,13 @@ use Prim.Native.Nat.{ℕ, _+_, _-_, _≤_}
 use native.Mathlib.Omega.{arith}
 use mathlib.Core.Path.{_≡_, refl, sym, ap, _∙_}
 use mathlib.Core.Bool.{Bool, cond}
-use mathlib.Core.List.{List, [], _∷_, _++_, append-assoc}
+use mathlib.Core.List.{List, [], _∷_, _++_}
 use lib.ListN.{length, length-append}
 use lib.Bits.{bitOr}
 use Rattle.octets.specs.Octets.{part, put, be}
 use Rattle.octets.specs.Parts.{length-part}
 use Rattle.octets.specs.Numbers.{length-be}
-use Rattle.octets.specs.Written.{Written, wrote, then}
+use Rattle.octets.specs.Written.{wrote, then}
 use Rattle.packet.specs.Frame.{flagsOf, initFlag, replyFlag, chunkFlag, doneFlag, ackFlag}
 use Rattle.packet.specs.Outgoing.{entry, header, initPacket, chunkPacket, donePacket, replyPacket, Room}
 use Rattle.packet.specs.Lengths.{length-header}

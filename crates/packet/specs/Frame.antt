@@ -1,6 +1,6 @@
 -- A frame's fields, and the kind that its flag byte decides: document 01, "Packets", and the first lines of "Steps".
-use Prim.Native.Nat.{ℕ, _+_, min}
-use mathlib.Core.Bool.{Bool, true, false, not, cond}
+use Prim.Native.Nat.{ℕ, min}
+use mathlib.Core.Bool.{Bool, not, cond}
 use mathlib.Core.List.{List}
 use lib.ListN.{getD}
 use lib.Bits.{bitAnd}

@@ -1,7 +1,7 @@
 -- Packets that are put out, and the run that carries them: document 01, "Answers by number" (run), "Packets" and the replies of "Steps".
 use Prim.Native.Nat.{ℕ, _+_, _-_, _≤_}
 use mathlib.Core.Path.{_≡_}
-use mathlib.Core.Bool.{Bool, true, false, cond}
+use mathlib.Core.Bool.{Bool, cond}
 use mathlib.Core.List.{List, [], _∷_, _++_}
 use lib.ListN.{length}
 use lib.Bits.{bitOr}

@@ -1,6 +1,5 @@
 -- What each answer tells of the book, for those who call `admission`. Assumes nothing.
 use Prim.Native.Nat.{ℕ}
-use native.Mathlib.Omega.{arith}
 use mathlib.Core.Path.{_≡_, refl}
 use mathlib.Core.Bool.{Bool, true, false, cond}
 use mathlib.Core.List.{List}

@@ -1,10 +1,10 @@
 -- Each refusal by its tests; the address by its two writes. Assumes nothing.
 use Prim.Native.Nat.{ℕ}
-use mathlib.Core.Path.{_≡_, ap}
+use mathlib.Core.Path.{ap}
 use mathlib.Core.List.{List}
 use borrow.Author.Tests.{eq-eqb, ne-eqb, lt-leb, le-leb}
 use Rattle.octets.specs.Octets.{part}
-use Rattle.address.specs.Address.{AddressOutcome, addressOf}
+use Rattle.address.specs.Address.{addressOf}
 use Rattle.address.proofs.Writes.{address-is}
 use borrow.Author.Needs.{needs}
 use Rattle.address.proofs.address.Statement.{statement}

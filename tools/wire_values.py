@@ -24,9 +24,9 @@ def address(data):
     return bytes(digest)
 
 
-def show(packet):
+def show(packet, room=100):
     entry = struct.pack(">H", len(packet)) + b"\xaa" * 16 + b"\xbb" * 16 + packet
-    run = bytearray(b"\xee" * 100)
+    run = bytearray(b"\xee" * room)
     run[3:3 + len(entry)] = entry
     print(run.hex())
 
@@ -44,6 +44,7 @@ show(header(0x10) + struct.pack(">QQQ", 24, 31200, 7) + b"airflow")
 show(header(0x40) + struct.pack(">Q", 25) + key(1))
 show(header(0x20))
 show(header(0x08))
+show(header(0x80) + struct.pack(">QB", 0, 255) + b"t" * 255, 320)
 frame = bytes((7 * i + 3) % 256 for i in range(1400))
 for n in (21, 36, 52):
     show(frame[:8] + bytes((frame[8] | 1,)) + frame[9:n])

@@ -111,6 +111,17 @@ fn packets() {
     write_hex(&run);
 }
 
+// The entry of an init with the longest topic there can be.
+fn longest_topic() {
+    let from = [0xaau8; 16];
+    let to = [0xbbu8; 16];
+    let id = [1, 2, 3, 4, 5, 6, 7, 8];
+    let topic = [0x74u8; 255];
+    let mut run = [0xeeu8; 320];
+    packet::run::put_init(&mut run, 3, &from, &to, &id, false, 0, &topic);
+    write_hex(&run);
+}
+
 // The three replies to a frame, and its fields.
 fn replies() {
     let from = [0xaau8; 16];
@@ -147,6 +158,7 @@ fn main() {
     kinds();
     addresses();
     packets();
+    longest_topic();
     replies();
     fields();
 }

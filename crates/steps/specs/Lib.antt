@@ -16,3 +16,11 @@ pub mod Drop
 pub mod Take
 pub mod Frames
 pub mod Valid
+pub mod Marks
+pub mod Remarked
+pub mod SendValid
+pub mod Wake
+pub mod Cut
+pub mod Nth
+pub mod Leaving
+pub mod Push

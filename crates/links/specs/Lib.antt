@@ -1,0 +1,11 @@
+pub mod Link
+pub mod Clear
+pub mod Split
+pub mod Open
+pub mod HeadLink
+pub mod Unheld
+pub mod FreeCells
+pub mod FreeRecord
+pub mod Release
+pub mod Drop
+pub mod Take

@@ -9,3 +9,6 @@ pub mod FreeRecord
 pub mod Release
 pub mod Drop
 pub mod Take
+pub mod Done
+pub mod Swap
+pub mod CellSwap

@@ -55,12 +55,12 @@ module _ (C : ℕ) (b ps FC : List ℕ) (lines : List Row) (size : length b ≡ 
   pub freed-recs : (k : ℕ) → k ≤ recCount → recAt done k ≡ recAt b k
   freed-recs k h =
       part-put-after b1 freeCellsAt (lead x ps ∷ []) fits (recOff k) recBytes (omega arith)
-      ∙ cleared-before (storeBytes 0) cellBytes (omega arith) x ps b (recOff k) recBytes inside-ps (omega arith)
+      ∙ cleared-before (storeBytes 0) cellBytes (omega arith) x ps b inside-ps (recOff k) recBytes (omega arith)
 
   pub freed-head : part done 0 headBytes ≡ put (part b 0 headBytes) freeCellsAt (lead x ps ∷ [])
   freed-head =
       part-put-in b1 0 headBytes freeCellsAt (lead x ps ∷ []) (omega arith) (omega (arith, long1, size))
-      ∙ ap (λ (l : List ℕ). put l freeCellsAt (lead x ps ∷ [])) (cleared-before (storeBytes 0) cellBytes (omega arith) x ps b 0 headBytes inside-ps (omega arith))
+      ∙ ap (λ (l : List ℕ). put l freeCellsAt (lead x ps ∷ [])) (cleared-before (storeBytes 0) cellBytes (omega arith) x ps b inside-ps 0 headBytes (omega arith))
 
   -- the head's write changes no cell
   same1 : (k : ℕ) → cellAt done k ≡ cellAt b1 k
@@ -71,7 +71,7 @@ module _ (C : ℕ) (b ps FC : List ℕ) (lines : List Row) (size : length b ≡ 
   stay n u h =
       held-same (cellAt b) (cellAt done) n
       (λ k q. let i = one-inside C k (omega (arith, u k)) in
-      same1 k ∙ cleared-other (storeBytes 0) cellBytes (omega arith) x ps b k inside-ps (i .0) (omega (arith, u k, one-le (inside C k)))) h
+      same1 k ∙ cleared-other (storeBytes 0) cellBytes (omega arith) x ps b inside-ps k (i .0) (omega (arith, u k, one-le (inside C k)))) h
 
   pub freed-lines : Held (cellAt done) lines
   freed-lines = stay lines (λ k. omega (arith, counted k)) others

@@ -1,4 +1,5 @@
 pub mod Link
+pub mod Laid
 pub mod Clear
 pub mod Split
 pub mod Open
@@ -12,3 +13,4 @@ pub mod Take
 pub mod Done
 pub mod Swap
 pub mod CellSwap
+pub mod Cut

@@ -54,6 +54,7 @@ pub record Packet : Type 0 where
   pub rules : List ℕ
   pub known : ℕ
 
+-- the kind that its flags decide
 abbrev pub kind : Packet → Kind
 kind p = kindOf (flagsOf (p .frame))
 
@@ -61,6 +62,7 @@ kind p = kindOf (flagsOf (p .frame))
 abbrev pub asked : Packet → Key
 asked p = idOf (p .frame)
 
+-- it has the reply flag
 abbrev pub isReply : Packet → Bool
 isReply p = has (flagsOf (p .frame)) replyFlag
 
@@ -119,6 +121,7 @@ abbrev pub stateRow : ℕ → Option Rec → Refusals
 stateRow state none = (false, 8) ∷ []
 stateRow state (some r) = (eqb (r .sending .state) state, 18) ∷ []
 
+-- .. and, of a chunk, an index below the number of pieces (row 19)
 abbrev pub ackChunkRow : ℕ → Option Rec → Refusals
 ackChunkRow index none = (false, 8) ∷ []
 ackChunkRow index (some r) = (eqb (r .sending .state) stateInProgress, 18) ∷ (ltb index (length (r .cells)), 19) ∷ []
@@ -187,6 +190,7 @@ kindWake AckChunk = 1
 kindWake AckDone = 0
 kindWake Nothing = 0
 
+-- row 20: some kind fits
 abbrev pub isKind : Kind → Bool
 isKind Init = true
 isKind Chunk = true
@@ -230,9 +234,11 @@ packetAt n p recv send out =
     })
     (record { number = n; run = 0; wake = 0; recv = recv; send = send; out = out })
 
+-- the packet call, with its packet as one value
 abbrev pub packetDone : Packet → List ℕ → List ℕ → List ℕ → PacketOutcome
 packetDone p recv send out = packetAt (refusal (packetRow p recv send out)) p recv send out
 
+-- packet, as the code has its parameters
 unfoldable pub packetOf : List ℕ → List ℕ → List ℕ → List ℕ → List ℕ → List ℕ → ℕ → List ℕ → PacketOutcome
 packetOf recv send frame from to rules known out =
     packetDone (record { frame = frame; from = from; to = to; rules = rules; known = known }) recv send out
@@ -257,6 +263,7 @@ pub record Push : Type 0 where
   pub created : ℕ
   pub try : ℕ
 
+-- the head of the record that is pushed
 abbrev pub pushHead : Push → Head
 pushHead p = record {
   id = p .id;
@@ -284,11 +291,13 @@ pushRow p send out =
     ∷ (leb (slotsOf (length (p .bytes))) (length (decode send .freeCells)), 12)
     ∷ []
 
+-- the push call, with what is pushed as one value: its step, and the init that is sent
 abbrev pub pushDone : Push → List ℕ → List ℕ → SendOutcome
 pushDone p send out =
     sendAt (refusal (pushRow p send out)) (pushStep (pushHead p) (p .created) (p .created + p .try) (p .bytes) (decode send))
     (initOut (pushHead p)) send out
 
+-- push, as the code has its parameters
 unfoldable pub pushOf : List ℕ → List ℕ → ℕ → List ℕ → List ℕ → List ℕ → List ℕ → ℕ → ℕ → List ℕ → SendOutcome
 pushOf send id reply from to topic bytes created try out =
     pushDone (record { id = id; reply = reply; from = from; to = to; topic = topic; bytes = bytes; created = created; try = try }) send out
@@ -312,13 +321,16 @@ wakeRow wake id send out =
     ∷ (leb (wakeRoom wake) (length out), 2)
     ∷ heldRow (found id (decode send .held))
 
+-- what a wake sends
 unfoldable pub wakeRun : ℕ → ℕ → Option Rec → List ℕ
 wakeRun wake clock none = []
 wakeRun wake clock (some r) = cond (eqb wake sendWake) (wakeOut clock r) (deadlineOut r)
 
+-- what a wake makes of the send store
 unfoldable pub wakeStep : ℕ → List ℕ → ℕ → Store → Store
 wakeStep wake id clock s = cond (eqb wake sendWake) (change (woken clock) id s) (deadlineAt (found id (s .held)) s)
 
+-- wake, as the code has its parameters
 unfoldable pub wakeOf : List ℕ → ℕ → List ℕ → ℕ → List ℕ → SendOutcome
 wakeOf send wake id clock out =
     sendAt (refusal (wakeRow wake id send out)) (wakeStep wake id clock (decode send)) (wakeRun wake clock (found id (decode send .held))) send out
@@ -347,9 +359,11 @@ reported (some r) =
     ++ be numberWidth (r .sending .end / 1000)
     ++ be numberWidth (r .head .total)
 
+-- with the number that its row gives: the report at the start of the buffer
 abbrev pub reportAt : ℕ → Option Rec → List ℕ → ReportOutcome
 reportAt n r out = record { number = n; run = 0; wake = 0; out = cond (eqb n 0) (put out 0 (reported r)) out }
 
+-- report, as the code has its parameters
 unfoldable pub reportOf : List ℕ → List ℕ → List ℕ → ReportOutcome
 reportOf send id out = reportAt (refusal (reportRow send id out)) (found id (decode send .held)) out
 
@@ -362,6 +376,7 @@ takeRoom = 46
 abbrev pub takenRoom : ℕ → ℕ
 takenRoom total = recBytes + total
 
+-- rows 23 and 2, by what is whole
 abbrev pub oldestRow : List Rec → List ℕ → List ℕ → Refusals
 oldestRow [] taken out = (false, 23) ∷ []
 oldestRow (r ∷ l) taken out = (leb takeRoom (length out) && leb (takenRoom (r .head .total)) (length taken), 2) ∷ []
@@ -380,6 +395,7 @@ unfoldable pub takeOut : List Rec → List ℕ
 takeOut [] = []
 takeOut (r ∷ l) = entry (r .head .destination) (r .head .source) (readPacket (r .head .id))
 
+-- with the number that its row gives: the record and its data, the read packet, and the store without the record
 abbrev pub takeAt : ℕ → List Rec → List ℕ → List ℕ → List ℕ → TakeOutcome
 takeAt n whole recv taken out =
     cond (eqb n 0)
@@ -393,5 +409,6 @@ takeAt n whole recv taken out =
     })
     (record { number = n; run = 0; wake = 0; recv = recv; taken = taken; out = out })
 
+-- take, as the code has its parameters
 unfoldable pub takeOf : List ℕ → List ℕ → List ℕ → TakeOutcome
 takeOf recv taken out = takeAt (refusal (takeRow recv taken out)) (decode recv .whole) recv taken out

@@ -3,12 +3,14 @@
 use Prim.Native.Nat.{ℕ}
 use mathlib.Core.List.{List}
 
+-- of setup
 pub record SetupOutcome : Type 0 where
   pub number : ℕ
   pub run : ℕ
   pub wake : ℕ
   pub store : List ℕ
 
+-- of packet
 pub record PacketOutcome : Type 0 where
   pub number : ℕ
   pub run : ℕ
@@ -25,6 +27,7 @@ pub record SendOutcome : Type 0 where
   pub send : List ℕ
   pub out : List ℕ
 
+-- of report
 pub record ReportOutcome : Type 0 where
   pub number : ℕ
   pub run : ℕ

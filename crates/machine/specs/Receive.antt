@@ -15,12 +15,15 @@ use Rattle.machine.specs.Pieces.{pieceAt, putPiece, rest}
 abbrev pub recKey : Rec → Key
 recKey r = keyOf (r .head)
 
+-- the record with a key
 abbrev pub found : Key → List Rec → Option Rec
 found k l = find sameKey recKey k l
 
+-- the record with the key of r, replaced by r where it stands
 abbrev pub replaced : Rec → List Rec → List Rec
 replaced r l = swap sameKey recKey r l
 
+-- the records without the one with a key
 abbrev pub dropped : Key → List Rec → List Rec
 dropped k l = without sameKey recKey k l
 
@@ -51,6 +54,7 @@ initAt (some r) h s = record {
   freeCells = freedCells r (s .freeCells);
 }
 
+-- Init: the step for what an init says
 abbrev pub initStep : Head → Store → Store
 initStep h s = initAt (found (keyOf h) (s .held)) h s
 
@@ -70,6 +74,7 @@ withPiece place index bytes r = record {
 abbrev pub cellsLeft : Rec → ℕ → List ℕ → List ℕ
 cellsLeft r index l = cond (isSome (pieceAt index (r .cells))) l (rest l)
 
+-- .. of the record that is found, if there is one
 unfoldable pub chunkAt : Option Rec → ℕ → List ℕ → Store → Store
 chunkAt none index bytes s = s
 chunkAt (some r) index bytes s = record {
@@ -80,6 +85,7 @@ chunkAt (some r) index bytes s = record {
   freeCells = cellsLeft r index (s .freeCells);
 }
 
+-- Chunk: the step for a key, an index and a piece
 abbrev pub chunkStep : Key → ℕ → List ℕ → Store → Store
 chunkStep k index bytes s = chunkAt (found k (s .held)) index bytes s
 
@@ -96,6 +102,7 @@ doneAt (some r) s = record {
   freeCells = s .freeCells;
 }
 
+-- Done: the step for a key
 abbrev pub doneStep : Key → Store → Store
 doneStep k s = doneAt (found k (s .held)) s
 
@@ -125,5 +132,6 @@ takeFrom (r ∷ l) s = record {
   freeCells = freedCells r (s .freeCells);
 }
 
+-- Take: the step on what is whole
 abbrev pub takeStep : Store → Store
 takeStep s = takeFrom (s .whole) s

@@ -3,6 +3,7 @@ use Prim.Native.Nat.{ℕ}
 use mathlib.Core.Bool.{Bool, cond}
 use mathlib.Core.List.{List, [], _∷_}
 
+-- tests with their numbers
 abbrev pub Refusals : Type 0
 Refusals = List (Bool × ℕ)
 

@@ -17,9 +17,11 @@ use Rattle.machine.specs.Receive.{found, replaced, dropAt}
 
 -- ---- rebuilding
 
+-- the store with other held records
 abbrev pub withHeld : List Rec → Store → Store
 withHeld l s = record { setup = s .setup; free = s .free; held = l; whole = s .whole; freeCells = s .freeCells }
 
+-- the record in another state
 abbrev pub withState : ℕ → Rec → Rec
 withState n r = record {
   place = r .place;
@@ -29,9 +31,11 @@ withState n r = record {
   cells = r .cells;
 }
 
+-- the record with other cells
 abbrev pub withCells : List Cell → Rec → Rec
 withCells l r = record { place = r .place; head = r .head; slots = r .slots; sending = r .sending; cells = l }
 
+-- the piece with another stamp and state
 abbrev pub marked : Cell → ℕ → ℕ → Cell
 marked c stamp state = record { place = c .place; index = c .index; bytes = c .bytes; stamp = stamp; state = state }
 
@@ -40,6 +44,7 @@ unfoldable pub changeAt : (Rec → Rec) → Option Rec → Store → Store
 changeAt f none s = s
 changeAt f (some r) s = withHeld (replaced (f r) (s .held)) s
 
+-- the record with a key, changed by f; nothing where there is none
 abbrev pub change : (Rec → Rec) → Key → Store → Store
 change f k s = changeAt f (found k (s .held)) s
 
@@ -67,6 +72,7 @@ pushStep h created end bytes s = record {
 abbrev pub ackCell : ℕ → Cell → Cell
 ackCell index c = cond (eqb (c .index) index) (marked c 0 pieceAcked) c
 
+-- the record with the piece at an index Acked
 abbrev pub ackPiece : ℕ → Rec → Rec
 ackPiece index r = withCells (map (ackCell index) (r .cells)) r
 
@@ -79,12 +85,15 @@ sentBy h packet = entry (h .source) (h .destination) packet
 abbrev pub initOut : Head → List ℕ
 initOut h = sentBy h (initPacket (h .id) (eqb (h .reply) 1) (h .total) (h .topic))
 
+-- a chunk: its offset is 1,300 times its index
 abbrev pub chunkOut : Head → Cell → List ℕ
 chunkOut h c = sentBy h (chunkPacket (h .id) (c .index) (cutBy * c .index) (c .bytes))
 
+-- the done: the number of pieces and the sum of the pieces joined
 abbrev pub doneOut : Rec → List ℕ
 doneOut r = sentBy (r .head) (donePacket (r .head .id) (r .slots) (blake3 (joined (r .cells))))
 
+-- the aborted packet
 abbrev pub abortedOut : Head → List ℕ
 abortedOut h = sentBy h (abortedPacket (h .id))
 
@@ -98,10 +107,12 @@ due clock c = eqb (c .state) pieceStarted || (eqb (c .state) pieceSent && leb (c
 abbrev pub stamped : ℕ → Cell → Cell
 stamped clock c = cond (due clock c) (marked c clock pieceSent) c
 
+-- the chunks of the due pieces, in index order
 unfoldable pub dueOut : ℕ → Head → List Cell → List ℕ
 dueOut clock h [] = []
 dueOut clock h (c ∷ l) = cond (due clock c) (chunkOut h c) [] ++ dueOut clock h l
 
+-- every piece is Acked
 abbrev pub allAcked : List Cell → Bool
 allAcked l = all (λ (c : Cell). eqb (c .state) pieceAcked) l
 
@@ -115,6 +126,7 @@ wakeOut clock r =
     cond (eqb (r .sending .timedOut) 1) []
     (cond (eqb (r .sending .state) stateInit) (initOut (r .head)) (cond (eqb (r .sending .state) stateInProgress) (progressOut clock r) []))
 
+-- the record after it: in state 1 the due pieces are stamped
 unfoldable pub woken : ℕ → Rec → Rec
 woken clock r =
     cond (eqb (r .sending .timedOut) 1) r

@@ -6,11 +6,13 @@ use Rattle.machine.specs.Layout.{idWidth, addressWidth, numberWidth}
 use Rattle.machine.specs.Sound.{Exactly}
 use Rattle.machine.specs.Calls.{Packet, Push}
 
+-- of a packet
 pub record TypedPacket (p : Packet) : Type 0 where
   pub frame : Bytes (p .frame)
   pub from : Exactly addressWidth (p .from)
   pub to : Exactly addressWidth (p .to)
 
+-- of a push
 pub record TypedPush (p : Push) : Type 0 where
   pub id : Exactly idWidth (p .id)
   pub from : Exactly addressWidth (p .from)
@@ -18,5 +20,6 @@ pub record TypedPush (p : Push) : Type 0 where
   pub topic : Bytes (p .topic)
   pub bytes : Bytes (p .bytes)
 
+-- of a wake's clock
 abbrev pub TypedClock : ℕ → Type 0
 TypedClock clock = clock < pow numberWidth

@@ -39,9 +39,11 @@ frame l = l ++ replicate (1400 - length l) 0
 unfoldable pub init : ℕ → List ℕ
 init n = frame (header id 0x84 ++ be 8 n)
 
+-- a chunk
 unfoldable pub chunk : ℕ → ℕ → List ℕ → List ℕ
 chunk index offset bytes = frame (chunkPacket id index offset bytes)
 
+-- the done of some bytes, with their sum
 unfoldable pub done : ℕ → List ℕ → List ℕ
 done count bytes = frame (donePacket id count (blake3 bytes))
 
@@ -62,6 +64,7 @@ hear f s =
     let n : ℕ = refusal (kindRow (kind p) p (s .recv) (fresh roleSend 1)) in
     record { numbers = n ∷ s .numbers; recv = cond (eqb n 0) (recvStep (kind p) p (s .recv)) (s .recv) }
 
+-- a fresh office
 unfoldable pub opened : Seen
 opened = record { numbers = []; recv = fresh roleReceive 2 }
 
@@ -101,11 +104,13 @@ new = 1 ∷ 2 ∷ 3 ∷ []
 unfoldable pub one : List ℕ → Rec
 one bytes = survey 3 1 (newCell 1 0 bytes ∷ [])
 
+-- the packets of the run, the first innermost
 unfoldable pub mixed : Seen → Seen
 mixed s =
     hear (done 1 new) (hear (done 1 new) (hear (chunk 0 0 new) (hear (done 1 new) (hear (chunk 0 0 old) (hear (done 1 new)
     (hear (init 3) (hear (chunk 0 0 old) (hear (init 3) s))))))))
 
+-- after two packets, and so on
 unfoldable pub m2 : Seen
 m2 = arriving (0 ∷ 0 ∷ []) (one old) (2 ∷ [])
 

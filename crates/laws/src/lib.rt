@@ -1,2 +1,1 @@
-// A crate of pure laws only: they stand in specs/.
-pub fn nothing() {}
+// A crate of laws only: they stand in specs/.

@@ -1,2 +1,1 @@
-// A crate of definitions and theorems only: they stand in specs/.
-pub fn nothing() {}
+// A crate of laws only: they stand in specs/.

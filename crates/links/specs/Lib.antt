@@ -14,3 +14,4 @@ pub mod Done
 pub mod Swap
 pub mod CellSwap
 pub mod Cut
+pub mod Encodes

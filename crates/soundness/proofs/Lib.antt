@@ -1,0 +1,4 @@
+pub mod Rises
+pub mod Walking
+pub mod Rests
+pub mod Whole

@@ -1,0 +1,3 @@
+pub mod Links
+pub mod Rising
+pub mod Walked

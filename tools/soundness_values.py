@@ -1,6 +1,8 @@
 #!/usr/bin/env python3
 """What crates/soundness_values must write, by the model in soundness_model.py.
 Use: tools/soundness_values.py > crates/soundness_values/stdout   (about a minute)"""
+import sys
+
 from soundness_model import *
 out = []
 

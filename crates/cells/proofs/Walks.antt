@@ -1,0 +1,154 @@
+-- Walks step by step, as the loops take them: what is left from here gives what the whole gives. Assumes nothing.
+use Prim.Native.Nat.{ℕ, zero, suc, _+_, _-_, _≤_, _<_}
+use native.Mathlib.Omega.{arith}
+use mathlib.Core.Path.{_≡_, refl, sym, ap, _∙_}
+use mathlib.Core.Bool.{false, cond}
+use mathlib.Core.List.{List, [], _∷_, map}
+use lib.ListN.{length, getD, take, drop}
+use lib.Dec.{eqb, leb}
+use borrow.Author.Tests.{eq-eqb, ne-eqb, le-leb, lt-leb}
+use Rattle.octets.specs.Octets.{part, put, num}
+use Rattle.octets.specs.Bools.{one}
+use Rattle.octets.specs.Parts.{put-nil, put-put, part-of}
+use Rattle.machine.specs.Limits.{largestPiece, cellBytes, mostCells}
+use Rattle.machine.specs.Values.{Cell}
+use Rattle.machine.specs.Counting.{occurs}
+use Rattle.machine.specs.Layout.{countAt, cellOff, pieceStateAt, readCell}
+use Rattle.machine.specs.Sound.{sizes}
+use Rattle.machine.specs.Pieces.{joined}
+use Rattle.cells.specs.Links.{Links}
+use Rattle.cells.specs.Read.{cell-in, sizeOf, piece-state, piece-bytes, piece-size, cellsFrom, cells-end, cells-out, cells-more}
+use Rattle.cells.specs.InPlace.{pieceState, indexBehind, spotFrom}
+
+-- ---- a cell that is met
+
+-- the cell x of b, whose row starts at `cell`
+pub record Met (b : List ℕ) (x cell : ℕ) : Type 0 where
+  pub some : 1 ≤ x
+  pub most : x ≤ mostCells
+  pub fits : cell + cellBytes ≤ length b
+  pub leads : getD b cell 0 ≤ getD b countAt 0
+
+pub met : (b : List ℕ) (x cell : ℕ) → Links b → x ≤ getD b countAt 0 → (x ≡ 0 → ⊥) → cell ≡ cellOff x → Met b x cell
+met b x cell h g z q =
+    let a : 1 ≤ x = omega (arith, z) in
+    let i = cell-in b h x a g in
+    record { some = a; most = i .most; fits = omega (arith, i .fits); leads = rw q (h .nextCell x a g) }
+
+-- ---- the spot of an index
+
+spot-step : (b : List ℕ) (m at i : ℕ) → 0 < m
+    → spotFrom b m at i ≡ cond (eqb (getD b at 0) 0) at (cond (leb i (indexBehind b at)) at (spotFrom b (m - 1) (cellOff (getD b at 0)) i))
+unfolding spotFrom
+spot-step b zero at i h = absurd (omega arith)
+spot-step b (suc m) at i h =
+    let e : m ≡ suc m - 1 = omega arith in
+    ap (λ (k : ℕ). cond (eqb (getD b at 0) 0) at (cond (leb i (indexBehind b at)) at (spotFrom b k (cellOff (getD b at 0)) i))) e
+
+pub spot-out : (b : List ℕ) (n at i : ℕ) → 46 ≤ n → spotFrom b (46 - n) at i ≡ at
+unfolding spotFrom
+spot-out b n at i h = let e : 46 - n ≡ 0 = omega arith in ap (λ (m : ℕ). spotFrom b m at i) e
+
+-- n steps are done; the link at `at` leads to x
+module _ (b : List ℕ) (n at i x : ℕ) (h : n < 46) (q : x ≡ getD b at 0) where
+  pub spot-end : x ≡ 0 → spotFrom b (46 - n) at i ≡ at
+  spot-end z = spot-step b (46 - n) at i (omega arith) ∙ rw (eq-eqb (getD b at 0) 0 (sym q ∙ z))
+
+  -- to a cell at `cell`, of index y
+  module _ (some : x ≡ 0 → ⊥) (cell y : ℕ) (c : cell ≡ cellOff x) (e : y ≡ getD b (cell + 1) 0) where
+    is-some : eqb (getD b at 0) 0 ≡ false
+    is-some = ne-eqb (getD b at 0) 0 (λ z. some (q ∙ z))
+
+    behind : indexBehind b at ≡ y
+    behind = sym (e ∙ (λ t. getD b (c t + 1) 0) ∙ ap (λ (k : ℕ). getD b (cellOff k + 1) 0) q)
+
+    pub spot-here : i ≤ y → spotFrom b (46 - n) at i ≡ at
+    spot-here g = spot-step b (46 - n) at i (omega arith) ∙ rw (is-some, le-leb i (indexBehind b at) (omega (arith, behind)))
+
+    pub spot-more : y < i → spotFrom b (46 - n) at i ≡ spotFrom b (46 - (n + 1)) cell i
+    spot-more g =
+        let m : 46 - n - 1 ≡ 46 - (n + 1) = omega arith in
+        spot-step b (46 - n) at i (omega arith)
+        ∙ rw (is-some, lt-leb i (indexBehind b at) (omega (arith, behind))) (λ t. spotFrom b (m t) ((ap cellOff (sym q) ∙ sym c) t) i)
+
+-- ---- a piece
+
+-- the piece of the cell k, whose row starts at `from`, has n bytes
+pub record Piece (b : List ℕ) (k from n : ℕ) : Type 0 where
+  pub fits : from + 16 + n ≤ length b
+  pub size : length (readCell b k .bytes) ≡ n
+  pub is : take (from + 16 + n - (from + 16)) (drop (from + 16) b) ≡ readCell b k .bytes
+
+pub piece-here : (b : List ℕ) (k from n : ℕ) → Links b → 1 ≤ k → k ≤ getD b countAt 0 → from ≡ cellOff k → n ≡ num 2 (part b (from + 2) 2) → Piece b k from n
+piece-here b k from n h a g q e =
+    let i = cell-in b h k a g in
+    let s : sizeOf b k ≤ largestPiece = h .size k a g in
+    let z : n ≡ sizeOf b k = e ∙ ap (λ (o : ℕ). num 2 (part b (o + 2) 2)) q in
+    record {
+      fits = omega (arith, i .fits);
+      size = piece-size b k i s ∙ sym z;
+      is = part-of b (from + 16) (from + 16 + n) n (omega arith) ∙ (λ t. part b (q t + 16) (z t)) ∙ sym (piece-bytes b k s);
+    }
+
+-- ---- joined
+
+-- the cells left from x on after n steps, joined behind what `out` has up to `at`, give what the cells from `first` on, joined in `start`, give
+pub record Joining (b : List ℕ) (first : ℕ) (start out : List ℕ) (x at n : ℕ) : Type 0 where
+  pub long : length out ≡ length start
+  pub size : at + sizes (cellsFrom b (46 - n) x) ≡ sizes (cellsFrom b 46 first)
+  pub gives : put out at (joined (cellsFrom b (46 - n) x)) ≡ put start 0 (joined (cellsFrom b 46 first))
+
+module _ (b : List ℕ) (first : ℕ) (start out : List ℕ) (x at n : ℕ) (j : Joining b first start out x at n) where
+  -- nothing is left
+  pub joining-done : cellsFrom b (46 - n) x ≡ [] → (at ≡ sizes (cellsFrom b 46 first)) × (out ≡ put start 0 (joined (cellsFrom b 46 first)))
+  unfolding sizes joined
+  joining-done e = (
+    omega (arith, j .size, ap sizes e),
+    sym (put-nil out at) ∙ ap (λ (l : List Cell). put out at (joined l)) (sym e) ∙ j .gives,
+  )
+
+  -- one more cell
+  module _ (h : n < 46) (some : 0 < x) where
+    abbrev rest : List Cell
+    rest = cellsFrom b (46 - (n + 1)) (getD b (cellOff x) 0)
+
+    left : cellsFrom b (46 - n) x ≡ readCell b x ∷ rest
+    left =
+        let m : 46 - n - 1 ≡ 46 - (n + 1) = omega arith in
+        cells-more b (46 - n) x (omega arith) some ∙ ap (λ (k : ℕ). readCell b x ∷ cellsFrom b k (getD b (cellOff x) 0)) m
+
+    size-left : at + (length (readCell b x .bytes) + sizes rest) ≡ sizes (cellsFrom b 46 first)
+    unfolding sizes
+    size-left = ap (λ (l : List Cell). at + sizes l) (sym left) ∙ j .size
+
+    pub joining-fits : sizes (cellsFrom b 46 first) ≤ length start → at + length (readCell b x .bytes) ≤ length out
+    joining-fits g = omega (arith, size-left, j .long)
+
+    pub joining-more : (out′ : List ℕ) (at′ y : ℕ) → sizes (cellsFrom b 46 first) ≤ length start → at′ ≡ at + length (readCell b x .bytes) → out′ ≡ put out at (readCell b x .bytes)
+        → length out′ ≡ length out → y ≡ getD b (cellOff x) 0 → Joining b first start out′ y at′ (n + 1)
+    unfolding joined
+    joining-more out′ at′ y g e f l q =
+        rw q record {
+          long = l ∙ j .long;
+          size = omega (arith, size-left);
+          gives = rw (e, f) (put-put out at (at + length (readCell b x .bytes)) (readCell b x .bytes) (joined rest) (joining-fits g) refl
+              ∙ ap (λ (l : List Cell). put out at (joined l)) (sym left) ∙ j .gives);
+        }
+
+-- ---- counted
+
+abbrev pub stateCount : List ℕ → ℕ → ℕ → ℕ → ℕ
+stateCount b state n x = occurs state (map pieceState (cellsFrom b n x))
+
+pub count-end : (b : List ℕ) (state n x : ℕ) → x ≡ 0 → stateCount b state n x ≡ 0
+count-end b state n x e = ap (λ (l : List Cell). occurs state (map pieceState l)) (cells-end b n x e)
+
+pub count-out : (b : List ℕ) (state n x : ℕ) → 46 ≤ n → stateCount b state (46 - n) x ≡ 0
+count-out b state n x h = ap (λ (l : List Cell). occurs state (map pieceState l)) (cells-out b (46 - n) x (omega arith))
+
+pub count-more : (b : List ℕ) (state n x : ℕ) → n < 46 → 0 < x
+    → stateCount b state (46 - n) x ≡ one (eqb state (getD b (cellOff x + pieceStateAt) 0)) + stateCount b state (46 - (n + 1)) (getD b (cellOff x) 0)
+count-more b state n x h some =
+    let m : 46 - n - 1 ≡ 46 - (n + 1) = omega arith in
+    ap (λ (l : List Cell). occurs state (map pieceState l)) (cells-more b (46 - n) x (omega arith) some)
+    ∙ (λ t. one (eqb state (piece-state b x t)) + stateCount b state (m t) (getD b (cellOff x) 0))

@@ -1,0 +1,10 @@
+pub mod InPlace
+pub mod Links
+pub mod Read
+pub mod Spot
+pub mod Held
+pub mod Rewrite
+pub mod Mark
+pub mod RecLink
+pub mod Insert
+pub mod Chunk

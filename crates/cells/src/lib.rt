@@ -1,0 +1,6 @@
+// The pieces of a record, in place: a chain of cells of a store's bytes, in index order. Who calls has checked that the bytes are sound, so every
+// link and every size is in range; a walk ends all the same, on any links, after 46 cells.
+pub mod insert;
+pub mod layout;
+pub mod row;
+pub mod walk;

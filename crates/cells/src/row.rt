@@ -1,0 +1,57 @@
+// The row of one cell: a piece written into it, and a piece's stamp and state.
+use crate::layout::BYTES_AT;
+use crate::layout::INDEX_AT;
+use crate::layout::LARGEST_PIECE;
+use crate::layout::SIZE_AT;
+use crate::layout::STAMP_AT;
+use crate::layout::STATE_AT;
+use crate::layout::cell_at;
+use octets::copy_in;
+use octets::fill;
+use octets::put16;
+use octets::put64;
+ghost use mathlib.Core.Path.{_≡_};
+ghost use Prim.Native.Nat.{_≤_};
+ghost use lib.ListN.{length};
+ghost use Rattle.machine.specs.Limits.{largestPiece};
+ghost use Rattle.machine.specs.Layout.{cellOff, cellRow};
+ghost use Rattle.machine.specs.Pieces.{newCell};
+ghost use Rattle.octets.specs.Octets.{put};
+ghost use Rattle.cells.specs.InPlace.{rewritten, remarked, CellIn};
+
+// A cell's whole row, with a piece that has just come; zeros past the piece.
+pub fn put_cell(store: &mut [u8], cell: usize, next: u8, index: u8, bytes: &[u8])
+    requires { ⌜ CellIn (now store) cell × (length (now bytes) ≤ largestPiece) ⌝ }
+    ensures { λ _. ⌜ now (store .exit) ≡ put (now (store .entry)) (cellOff cell) (cellRow next (newCell cell index (now (bytes .entry)))) ⌝ }
+{
+    let at = cell_at(cell);
+    let size = bytes.len();
+    let front = [next, index];
+    copy_in(store, at, &front);
+    put16(store, at + SIZE_AT, size as u64);
+    fill(store, at + STAMP_AT, BYTES_AT - STAMP_AT, 0);
+    copy_in(store, at + BYTES_AT, bytes);
+    fill(store, at + BYTES_AT + size, LARGEST_PIECE - size, 0);
+}
+
+// A piece replaced in its own cell, which keeps its link and its index.
+pub fn rewrite(store: &mut [u8], cell: usize, bytes: &[u8])
+    requires { ⌜ CellIn (now store) cell × (length (now bytes) ≤ largestPiece) ⌝ }
+    ensures { λ _. ⌜ now (store .exit) ≡ rewritten (now (store .entry)) cell (now (bytes .entry)) ⌝ }
+{
+    let at = cell_at(cell);
+    let next = store[at];
+    let index = store[at + INDEX_AT];
+    put_cell(store, cell, next, index, bytes);
+}
+
+// A piece's stamp and state.
+pub fn mark(store: &mut [u8], cell: usize, stamp: u64, state: u8)
+    requires { ⌜ CellIn (now store) cell ⌝ }
+    ensures { λ _. ⌜ now (store .exit) ≡ remarked (now (store .entry)) cell stamp state ⌝ }
+{
+    let at = cell_at(cell);
+    put64(store, at + STAMP_AT, stamp);
+    let one = [state];
+    copy_in(store, at + STATE_AT, &one);
+}

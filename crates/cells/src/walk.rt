@@ -1,0 +1,106 @@
+// Walks along the cells of a record: the spot of an index, the pieces joined, and how many have a state.
+use crate::layout::BYTES_AT;
+use crate::layout::INDEX_AT;
+use crate::layout::MOST_STEPS;
+use crate::layout::SIZE_AT;
+use crate::layout::STATE_AT;
+use crate::layout::cell_at;
+use octets::copy_in;
+use octets::get16;
+use octets::small;
+use octets::wide;
+ghost use mathlib.Core.Path.{_≡_};
+ghost use mathlib.Core.List.{map};
+ghost use Prim.Native.Nat.{_+_, _≤_};
+ghost use lib.ListN.{length, getD};
+ghost use lib.Dec.{eqb};
+ghost use Rattle.octets.specs.Bools.{one};
+ghost use Rattle.octets.specs.Octets.{put};
+ghost use Rattle.machine.specs.Counting.{occurs};
+ghost use Rattle.machine.specs.Layout.{countAt, readCell, readCells};
+ghost use Rattle.machine.specs.Sound.{sizes};
+ghost use Rattle.machine.specs.Pieces.{joined};
+ghost use Rattle.cells.specs.Links.{Links};
+ghost use Rattle.cells.specs.InPlace.{pieceState, spotFrom, LinkIn};
+
+// From the link at byte `at` on, the byte of the link to the first cell whose index is not below `index`, or of the 0 that ends the chain.
+pub fn spot(store: &[u8], at: usize, index: u64) -> usize
+    requires { ⌜ Links (now store) × LinkIn (now store) at ⌝ }
+    ensures { λ r. ⌜ (r ≡ spotFrom (now (store .entry)) 46 at index) × LinkIn (now (store .entry)) r ⌝ }
+{
+    let mut link = at;
+    let mut n: usize = 0;
+    while n < MOST_STEPS {
+        let x = small(store[link]);
+        if x == 0 {
+            return link;
+        }
+        let cell = cell_at(x);
+        if index <= wide(store[cell + INDEX_AT]) {
+            return link;
+        }
+        link = cell;
+        n += 1;
+    }
+    link
+}
+
+// A piece's bytes, copied into `out` from `at` on; answers where they end.
+fn copy_piece(store: &[u8], cell: usize, out: &mut [u8], at: usize) -> usize
+    requires { ⌜ Links (now store) × ((1 ≤ cell) × (cell ≤ getD (now store) countAt 0)) × (at + length (readCell (now store) cell .bytes) ≤ length (now out)) ⌝ }
+    ensures { λ r. ⌜ (r ≡ at + length (readCell (now (store .entry)) cell .bytes)) × (now (out .exit) ≡ put (now (out .entry)) at (readCell (now (store .entry)) cell .bytes)) ⌝ }
+{
+    let from = cell_at(cell);
+    let size = get16(store, from + SIZE_AT) as usize;
+    let start = from + BYTES_AT;
+    let end = start + size;
+    copy_in(out, at, &store[start..end]);
+    at + size
+}
+
+// The pieces from the cell `first` on, joined in `out`; answers how many bytes they have together.
+pub fn join(store: &[u8], first: usize, out: &mut [u8]) -> usize
+    requires { ⌜ Links (now store) × (first ≤ getD (now store) countAt 0) × (sizes (readCells (now store) first) ≤ length (now out)) ⌝ }
+    ensures { λ r. ⌜ (r ≡ sizes (readCells (now (store .entry)) first)) × (now (out .exit) ≡ put (now (out .entry)) 0 (joined (readCells (now (store .entry)) first))) ⌝ }
+{
+    let mut x = first;
+    let mut at: usize = 0;
+    let mut n: usize = 0;
+    while n < MOST_STEPS {
+        if x == 0 {
+            return at;
+        }
+        at = copy_piece(store, x, out, at);
+        let cell = cell_at(x);
+        x = small(store[cell]);
+        n += 1;
+    }
+    at
+}
+
+// 1 where the two bytes are equal, else 0.
+fn same(x: u8, y: u8) -> u64
+    ensures { λ r. ⌜ (r ≡ one (eqb x y)) × (r ≤ 1) ⌝ }
+{
+    if x == y { 1 } else { 0 }
+}
+
+// How many of the pieces from the cell `first` on have a state.
+pub fn count(store: &[u8], first: usize, state: u8) -> u64
+    requires { ⌜ Links (now store) × (first ≤ getD (now store) countAt 0) ⌝ }
+    ensures { λ r. ⌜ r ≡ occurs state (map pieceState (readCells (now (store .entry)) first)) ⌝ }
+{
+    let mut x = first;
+    let mut found: u64 = 0;
+    let mut n: usize = 0;
+    while n < MOST_STEPS {
+        if x == 0 {
+            return found;
+        }
+        let cell = cell_at(x);
+        found = found + same(state, store[cell + STATE_AT]);
+        x = small(store[cell]);
+        n += 1;
+    }
+    found
+}

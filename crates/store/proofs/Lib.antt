@@ -1,0 +1,4 @@
+pub mod Following
+pub mod Opens
+pub mod Clears
+pub mod Releases

@@ -1,0 +1,19 @@
+-- Assumes nothing.
+use Rattle.store.proofs.Opens.{rest-is}
+use borrow.Author.Needs.{needs}
+use Rattle.store.proofs.open.put_rest.Statement.{statement}
+use Rattle.store.proofs.open.put_rest.Tie as tie
+
+returns : tie.Need-returns
+returns c =
+    let c6 = c .before .before .before .before .before .before in
+    let c10 = c6 .before .before .before .before in
+    let c14 = c10 .before .before .before .before in
+    let c18 = c14 .before .before .before .before in
+    rest-is _ _ _ _ _ _ _ _ (c18 .pre .0) (c18 .pre .1)
+    (c14 .put64 .ensures) (c10 .fill .ensures) (c6 .copy-in .ensures) (c .before .before .fill2 .ensures)
+
+pub put-rest-spec : {M : Type 1} → statement M
+put-rest-spec =
+    tie.close
+    (tie.spec (λ c. search needs) (λ c κs. search needs) (λ c. search needs) (λ c. search needs) (λ c κs. search needs) (λ c. search needs) (λ c κs. search needs) (λ c. search needs) (λ c. search needs) (λ c. search needs) (λ c. search needs) (λ c κs. search needs) (λ c. search needs) returns)

@@ -1,0 +1,77 @@
+-- What the calls above establish, from a sound store: a link that was found leads to the record, and the operations have what they require.
+-- Assumes nothing.
+use Prim.Native.Nat.{ℕ, suc, _<_}
+use native.Mathlib.Omega.{arith}
+use mathlib.Core.Path.{_≡_, refl}
+use mathlib.Core.Bool.{true}
+use mathlib.Core.List.{List}
+use mathlib.Core.Option.{Option, none, some}
+use lib.ListN.{getD}
+use lib.Dec.{ltb}
+use borrow.Author.Tests.{lt-ltb, le-ltb}
+use Rattle.octets.specs.Octets.{Bytes}
+use Rattle.octets.specs.Lists.{All, all-to}
+use Rattle.machine.specs.Limits.{recCount}
+use Rattle.machine.specs.Codes.{roleReceive}
+use Rattle.machine.specs.Values.{Rec, Key, sameKey}
+use Rattle.machine.specs.Find.{isSome}
+use Rattle.machine.specs.Receive.{recKey, found}
+use Rattle.machine.specs.Layout.{freeAt, heldAt, wholeAt, decode}
+use Rattle.machine.specs.Sound.{sound, RecSized, Valid}
+use Rattle.laws.specs.Rep.{Rep}
+use Rattle.laws.specs.SoundValid.{sound-valid}
+use Rattle.links.specs.Split.{found-split}
+use Rattle.steps.specs.Find.{all-found}
+use Rattle.store.specs.Links.{Links}
+use Rattle.store.specs.InRange.{links, sound-rep}
+use Rattle.store.specs.Seek.{seek}
+use Rattle.store.specs.Sought.{seek-link}
+use Rattle.store.specs.InChains.{held-leads, whole-leads, held-found, held-none, whole-found, whole-none}
+use Rattle.store.specs.Opening.{Openable}
+use Rattle.store.specs.Releasing.{Droppable}
+use Rattle.store.specs.Dropping.{Takable}
+
+pub openable : (b : List ℕ) → Links b → 0 < getD b freeAt 0 → Openable b
+openable b h g = record { some = g; small = h .free .small; long = omega (arith, h .long) }
+
+pub takable : (b : List ℕ) → Links b → sound roleReceive b ≡ true → 0 < getD b wholeAt 0 → Takable b
+takable b h t g = record { sound = t; linked = record { links = h; link = h .whole; some = g } }
+
+placed : (l : List Rec) → All (λ (r : Rec). (0 < r .place) × RecSized r) l → All (λ (r : Rec). 0 < r .place) l
+placed l h = all-to (λ (r : Rec). (0 < r .place) × RecSized r) (λ (r : Rec). 0 < r .place) l (λ r z. z .0) h
+
+module _ (role : ℕ) (b : List ℕ) (y : Bytes b) (t : sound role b ≡ true) where
+  valid : Valid role (decode b)
+  valid = sound-valid role b y t .0
+
+  rep : Rep (decode b) b
+  rep = sound-rep role b y t
+
+  -- whether the link that is found leads to a record tells whether there is one
+  pub held-is : (k : Key) → ltb 0 (getD b (seek k b heldAt) 0) ≡ isSome (found k (decode b .held))
+  held-is k = go (found k (decode b .held)) refl
+    where
+      go : (o : Option Rec) → found k (decode b .held) ≡ o → ltb 0 (getD b (seek k b heldAt) 0) ≡ isSome o
+      go none e = le-ltb 0 (getD b (seek k b heldAt) 0) (omega (arith, held-none role (decode b) valid b rep k e .leads))
+      go (some r) e = lt-ltb 0 (getD b (seek k b heldAt) 0)
+          (omega (
+            arith,
+            held-found role (decode b) valid b rep k r e (found-split sameKey recKey k r (decode b .held) e) .leads,
+            all-found sameKey recKey (λ (x : Rec). 0 < x .place) k r (decode b .held) e (placed (decode b .held) (held-leads role (decode b) valid b rep .fine)),
+          ))
+
+  pub whole-is : (k : Key) → ltb 0 (getD b (seek k b wholeAt) 0) ≡ isSome (found k (decode b .whole))
+  whole-is k = go (found k (decode b .whole)) refl
+    where
+      go : (o : Option Rec) → found k (decode b .whole) ≡ o → ltb 0 (getD b (seek k b wholeAt) 0) ≡ isSome o
+      go none e = le-ltb 0 (getD b (seek k b wholeAt) 0) (omega (arith, whole-none role (decode b) valid b rep k e .leads))
+      go (some r) e = lt-ltb 0 (getD b (seek k b wholeAt) 0)
+          (omega (
+            arith,
+            whole-found role (decode b) valid b rep k r e (found-split sameKey recKey k r (decode b .whole) e) .leads,
+            all-found sameKey recKey (λ (x : Rec). 0 < x .place) k r (decode b .whole) e (placed (decode b .whole) (whole-leads role (decode b) valid b rep .fine)),
+          ))
+
+  -- a held record that is found can be dropped
+  pub droppable : (k : Key) → 0 < getD b (seek k b heldAt) 0 → Droppable (seek k b heldAt) b
+  droppable k g = let h = links role b y t in record { links = h; link = seek-link k b (suc recCount) heldAt h (h .held); some = g }

@@ -1,0 +1,15 @@
+pub mod Links
+pub mod Byte
+pub mod InRange
+pub mod Seek
+pub mod Sought
+pub mod InChains
+pub mod Opening
+pub mod Opened
+pub mod Clearing
+pub mod Cleared
+pub mod Releasing
+pub mod Released
+pub mod Dropping
+pub mod Dropped
+pub mod Established

@@ -5,36 +5,36 @@ ghost use Rattle.machine.specs.Limits.{recCount, mostCells};
 ghost use Rattle.machine.specs.Layout.{recOff, cellOff};
 
 // The head's link to the first free cell.
-pub const FREE_CELLS_AT: usize = 3;
+pub const FREE_CELLS_AT: usize = rows::head::Head::FREE_CELLS;
 
 // A record: its link to its first cell, and its slots.
-pub const FIRST_CELL_AT: usize = 5;
+pub const FIRST_CELL_AT: usize = rows::record::Record::FIRST_CELL;
 
-pub const SLOTS_AT: usize = 7;
+pub const SLOTS_AT: usize = rows::record::Record::SLOTS;
 
 // A cell: its index, size, stamp, state and data; the link is its first byte.
-pub const INDEX_AT: usize = 1;
+pub const INDEX_AT: usize = rows::cell::Cell::INDEX;
 
-pub const SIZE_AT: usize = 2;
+pub const SIZE_AT: usize = rows::cell::Cell::SIZE;
 
-pub const STAMP_AT: usize = 4;
+pub const STAMP_AT: usize = rows::cell::Cell::STAMP;
 
-pub const STATE_AT: usize = 12;
+pub const STATE_AT: usize = rows::cell::Cell::STATE;
 
-pub const BYTES_AT: usize = 16;
+pub const BYTES_AT: usize = rows::cell::Cell::PIECE;
 
 // The most bytes that a piece has.
-pub const LARGEST_PIECE: usize = 1364;
+pub const LARGEST_PIECE: usize = rows::cell::LARGEST;
 
 // One step more than there are places: a walk on sound bytes has ended before.
-pub const MOST_STEPS: usize = 46;
+pub const MOST_STEPS: usize = rows::cell::MOST + 1;
 
 // The byte at which the row of the record at a place starts.
 pub fn record_at(place: usize) -> usize
     requires { ⌜ (1 ≤ place) × (place ≤ recCount) ⌝ }
     ensures { λ r. ⌜ r ≡ recOff place ⌝ }
 {
-    16 + 328 * (place - 1)
+    rows::record::FIRST + rows::record::BYTES * (place - 1)
 }
 
 // The byte at which the row of the cell at a place starts.
@@ -42,5 +42,5 @@ pub fn cell_at(place: usize) -> usize
     requires { ⌜ (1 ≤ place) × (place ≤ mostCells) ⌝ }
     ensures { λ r. ⌜ r ≡ cellOff place ⌝ }
 {
-    2640 + 1380 * (place - 1)
+    rows::cell::FIRST + rows::cell::BYTES * (place - 1)
 }

@@ -1,6 +1,8 @@
 // A chain of cells is freed: each cell becomes zero but for its link, and the chain goes in front of the free cells, in its own order.
 
 use crate::place;
+use rows::cell;
+use rows::head::Head;
 ghost use mathlib.Core.Path.{_≡_};
 ghost use Prim.Native.Nat.{suc, _<_};
 ghost use lib.ListN.{getD};
@@ -27,7 +29,7 @@ fn free_cell(store: &mut [u8], p: u8, end: u8) -> u8
     let next = store[row];
     let link = [or_else(end, next)];
     octets::copy_in(store, row, &link);
-    octets::fill(store, row + 1, place::CELL - 1, 0);
+    octets::fill(store, row + 1, cell::BYTES - 1, 0);
     next
 }
 
@@ -38,7 +40,7 @@ fn free_cells(store: &mut [u8], first: u8, end: u8)
 {
     let mut p = first;
     let mut n: usize = 0;
-    while n < place::MOST_CELLS + 1 {
+    while n < cell::MOST + 1 {
         if p == 0 {
             return;
         }
@@ -52,8 +54,8 @@ pub fn clear(store: &mut [u8], first: u8)
     requires { ⌜ Clearable first (getD (now store) freeCellsAt 0) (now store) ⌝ }
     ensures { λ _. ⌜ now (store .exit) ≡ clearFrom first (now (store .entry)) ⌝ }
 {
-    let end = store[place::FREE_CELLS];
+    let end = store[Head::FREE_CELLS];
     free_cells(store, first, end);
     let link = [or_else(end, first)];
-    octets::copy_in(store, place::FREE_CELLS, &link);
+    octets::copy_in(store, Head::FREE_CELLS, &link);
 }

@@ -1,6 +1,8 @@
 // A record is found by its id, along a chain.
 
 use crate::place;
+use rows::record;
+use rows::record::Record;
 ghost use mathlib.Core.Path.{_≡_};
 ghost use Rattle.store.specs.Links.{Links, RecLink};
 ghost use Rattle.store.specs.Seek.{seek};
@@ -12,13 +14,13 @@ pub fn find(store: &[u8], at: usize, id: &[u8]) -> usize
 {
     let mut link = at;
     let mut n: usize = 0;
-    while n < place::RECORDS + 1 {
+    while n < record::COUNT + 1 {
         let next = store[link];
         if next == 0 {
             return link;
         }
         let row = place::rec_off(next);
-        let a = row + place::ID;
+        let a = row + Record::ID;
         let e = a + place::ID_SIZE;
         if octets::equal(id, &store[a..e]) {
             return link;

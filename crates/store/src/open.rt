@@ -1,6 +1,9 @@
 // A new record: the first free one becomes the first held.
 
 use crate::place;
+use rows::head::Head;
+use rows::record;
+use rows::record::Record;
 ghost use mathlib.Core.Path.{_≡_};
 ghost use mathlib.Core.Option.{none};
 ghost use Prim.Native.Nat.{_+_, _≤_};
@@ -13,19 +16,19 @@ ghost use Rattle.machine.specs.Receive.{initAt};
 ghost use Rattle.store.specs.Opening.{Openable, opened, newHead, FieldsFit, frontOf, restOf, Ready};
 
 // A message is cut by 1,300 bytes.
-const CUT_BY: u64 = 1300;
+const CUT_BY: u64 = rows::message::CUT;
 
 // The first free record, in which all but its link is written, becomes the first held.
 pub fn hold(store: &mut [u8])
     requires { ⌜ Openable (now store) ⌝ }
     ensures { λ _. ⌜ now (store .exit) ≡ opened (now (store .entry)) ⌝ }
 {
-    let first = store[place::FREE];
+    let first = store[Head::FREE];
     let row = place::rec_off(first);
-    let link = [store[place::HELD]];
+    let link = [store[Head::HELD]];
     let heads = [store[row], first];
     octets::copy_in(store, row, &link);
-    octets::copy_in(store, place::FREE, &heads);
+    octets::copy_in(store, Head::FREE, &heads);
 }
 
 // A mark as a byte.
@@ -67,9 +70,9 @@ fn put_front(
         slots(total),
     ];
     octets::copy_in(store, row + 1, &front);
-    octets::copy_in(store, row + place::ID, id);
-    octets::copy_in(store, row + place::SOURCE, source);
-    octets::copy_in(store, row + place::DESTINATION, destination);
+    octets::copy_in(store, row + Record::ID, id);
+    octets::copy_in(store, row + Record::SOURCE, source);
+    octets::copy_in(store, row + Record::DESTINATION, destination);
 }
 
 // What follows, from its length on: what only a sender keeps is zero, and so is what follows the topic.
@@ -78,18 +81,18 @@ fn put_rest(store: &mut [u8], row: usize, total: u64, topic: &[u8])
     ensures { λ _. ⌜ now (store .exit) ≡ put (now (store .entry)) (row + totalAt) (restOf total (now (topic .entry))) ⌝ }
 {
     let size = topic.len();
-    octets::put64(store, row + place::TOTAL, total);
+    octets::put64(store, row + Record::LENGTH, total);
     octets::fill(
         store,
-        row + place::CREATED,
-        place::TOPIC - place::CREATED,
+        row + Record::CREATED,
+        Record::TOPIC - Record::CREATED,
         0,
     );
-    octets::copy_in(store, row + place::TOPIC, topic);
+    octets::copy_in(store, row + Record::TOPIC, topic);
     octets::fill(
         store,
-        row + place::TOPIC + size,
-        place::RECORD - place::TOPIC - size,
+        row + Record::TOPIC + size,
+        record::BYTES - Record::TOPIC - size,
         0,
     );
 }
@@ -107,7 +110,7 @@ pub fn open_arriving(
     requires { ⌜ Ready (now store) (newHead (now id) (now source) (now destination) reply total (now topic)) ⌝ }
     ensures { λ _. ⌜ now (store .exit) ≡ encode (initAt none (newHead (now (id .entry)) (now (source .entry)) (now (destination .entry)) reply total (now (topic .entry))) (decode (now (store .entry)))) ⌝ }
 {
-    let row = place::rec_off(store[place::FREE]);
+    let row = place::rec_off(store[Head::FREE]);
     put_front(store, row, id, source, destination, reply, total, topic);
     put_rest(store, row, total, topic);
     hold(store);

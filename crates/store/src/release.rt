@@ -2,6 +2,9 @@
 
 use crate::clear;
 use crate::place;
+use rows::head::Head;
+use rows::record;
+use rows::record::Record;
 ghost use mathlib.Core.Path.{_≡_};
 ghost use Prim.Native.Nat.{_<_, _≤_};
 ghost use lib.ListN.{length};
@@ -17,11 +20,11 @@ fn free_record(store: &mut [u8], p: u8)
     ensures { λ _. ⌜ now (store .exit) ≡ recFree p (now (store .entry)) ⌝ }
 {
     let row = place::rec_off(p);
-    let link = [store[place::FREE]];
+    let link = [store[Head::FREE]];
     let head = [p];
     octets::copy_in(store, row, &link);
-    octets::fill(store, row + 1, place::RECORD - 1, 0);
-    octets::copy_in(store, place::FREE, &head);
+    octets::fill(store, row + 1, record::BYTES - 1, 0);
+    octets::copy_in(store, Head::FREE, &head);
 }
 
 // The record at the place p and its cells, from the place first on, are freed.
@@ -41,7 +44,7 @@ fn unlink(store: &mut [u8], at: usize)
     let p = store[at];
     let row = place::rec_off(p);
     let next = [store[row]];
-    let first = store[row + place::FIRST_CELL];
+    let first = store[row + Record::FIRST_CELL];
     octets::copy_in(store, at, &next);
     release(store, p, first);
 }
@@ -59,5 +62,5 @@ pub fn take_first(store: &mut [u8])
     requires { ⌜ Takable (now store) ⌝ }
     ensures { λ _. ⌜ now (store .exit) ≡ encode (takeStep (decode (now (store .entry)))) ⌝ }
 {
-    unlink(store, place::WHOLE);
+    unlink(store, Head::WHOLE);
 }

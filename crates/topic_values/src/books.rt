@@ -105,7 +105,7 @@ fn listed(right: u64, near: &[u8; 16], far: &[u8; 16]) -> u64 {
 }
 
 // Runs all of them, and gives how many answers are the expected ones.
-pub fn run() -> u64 {
+pub(crate) fn run() -> u64 {
     let near = b"abcdABCDABCDABCD";
     let far = b"abceABCDABCDABCD";
     let mut n: u64 = malformed(0, near);

@@ -98,6 +98,6 @@ fn last(right: u64) -> u64 {
 }
 
 // Runs all of them, and gives how many answers are the expected ones.
-pub fn run() -> u64 {
+pub(crate) fn run() -> u64 {
     last(middle(first(0)))
 }

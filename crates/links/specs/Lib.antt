@@ -1,3 +1,6 @@
+pub mod Byte
+pub mod Links
+pub mod InRange
 pub mod Link
 pub mod Laid
 pub mod Clear

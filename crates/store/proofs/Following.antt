@@ -10,7 +10,7 @@ use Rattle.octets.specs.Parts.{part-of}
 use Rattle.machine.specs.Limits.{recCount}
 use Rattle.machine.specs.Values.{sameKey}
 use Rattle.machine.specs.Layout.{recOff, idAt, idWidth}
-use Rattle.store.specs.Links.{RecLink}
+use Rattle.links.specs.Links.{RecLink}
 use Rattle.store.specs.Seek.{idIn, seekFrom, seek}
 use Rattle.store.specs.Sought.{seek-end, seek-here, seek-next}
 

@@ -20,8 +20,8 @@ use Rattle.laws.specs.FreeRow.{free-length}
 use Rattle.laws.specs.Write.{Wrote, write-row}
 use Rattle.links.specs.Clear.{cleared}
 use Rattle.links.specs.FreeCells.{cellsFreed}
-use Rattle.store.specs.Byte.{first-byte}
-use Rattle.store.specs.Links.{count, Links}
+use Rattle.links.specs.Byte.{first-byte}
+use Rattle.links.specs.Links.{count, Links}
 use Rattle.store.specs.Clearing.{orElse, cellFree, freeFrom, clearFrom, Clearable}
 
 -- a cell's link is the first byte of its row

@@ -38,8 +38,8 @@ use Rattle.links.specs.Take.{take-rep}
 use Rattle.steps.specs.Find.{find-key, all-found}
 use Rattle.steps.specs.Drop.{drop-valid}
 use Rattle.steps.specs.Take.{take-valid}
-use Rattle.store.specs.Byte.{first-byte}
-use Rattle.store.specs.InRange.{sound-rep}
+use Rattle.links.specs.Byte.{first-byte}
+use Rattle.links.specs.InRange.{sound-rep}
 use Rattle.store.specs.Seek.{seek}
 use Rattle.store.specs.InChains.{held-found}
 use Rattle.store.specs.Clearing.{clearFrom}

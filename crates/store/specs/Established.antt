@@ -22,8 +22,8 @@ use Rattle.laws.specs.Rep.{Rep}
 use Rattle.laws.specs.SoundValid.{sound-valid}
 use Rattle.links.specs.Split.{found-split}
 use Rattle.steps.specs.Find.{all-found}
-use Rattle.store.specs.Links.{Links}
-use Rattle.store.specs.InRange.{links, sound-rep}
+use Rattle.links.specs.Links.{Links}
+use Rattle.links.specs.InRange.{links, sound-rep}
 use Rattle.store.specs.Seek.{seek}
 use Rattle.store.specs.Sought.{seek-link}
 use Rattle.store.specs.InChains.{held-leads, whole-leads, held-found, held-none, whole-found, whole-none}

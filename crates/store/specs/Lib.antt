@@ -1,6 +1,3 @@
-pub mod Links
-pub mod Byte
-pub mod InRange
 pub mod Seek
 pub mod Sought
 pub mod InChains

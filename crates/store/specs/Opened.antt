@@ -30,8 +30,8 @@ use Rattle.laws.specs.SoundValid.{sound-valid}
 use Rattle.links.specs.Unheld.{recTail, rec-parts}
 use Rattle.links.specs.Open.{rep-ready, openBytes, open-rep}
 use Rattle.steps.specs.Init.{HeadFine, init-valid}
-use Rattle.store.specs.Byte.{first-byte, put-before}
-use Rattle.store.specs.InRange.{sound-rep}
+use Rattle.links.specs.Byte.{first-byte, put-before}
+use Rattle.links.specs.InRange.{sound-rep}
 use Rattle.store.specs.Opening.{Openable, opened, FieldsFit, frontOf, restOf, Ready}
 
 -- ---- the row of a record that arrives

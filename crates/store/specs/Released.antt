@@ -9,7 +9,7 @@ use Rattle.octets.specs.Parts.{getD-put-before, getD-put-after, length-put}
 use Rattle.machine.specs.Limits.{recCount, recBytes, storeBytes}
 use Rattle.machine.specs.Layout.{freeAt, freeCellsAt, firstCellAt, recOff, freeRow}
 use Rattle.laws.specs.FreeRow.{free-length}
-use Rattle.store.specs.Byte.{byte-other}
+use Rattle.links.specs.Byte.{byte-other}
 use Rattle.store.specs.Clearing.{Clearable}
 use Rattle.store.specs.Cleared.{links-chain, chain-put}
 use Rattle.store.specs.Releasing.{recFree, Releasable, Droppable}

@@ -5,7 +5,7 @@ use lib.ListN.{getD}
 use Rattle.octets.specs.Octets.{put}
 use Rattle.machine.specs.Limits.{recBytes, recCount}
 use Rattle.machine.specs.Layout.{freeAt, freeCellsAt, firstCellAt, recOff, freeRow}
-use Rattle.store.specs.Links.{Links, RecLink}
+use Rattle.links.specs.Links.{Links, RecLink}
 use Rattle.store.specs.Clearing.{clearFrom, Clearable}
 
 -- the record at place p is free, in front of the free records

@@ -26,7 +26,7 @@ use Rattle.links.specs.Link.{linkAt, link-read, rows-append}
 use Rattle.links.specs.Split.{Split}
 use Rattle.links.specs.Unheld.{recTail, rec-parts}
 use Rattle.steps.specs.Find.{find-key}
-use Rattle.store.specs.Links.{RecLink, Links}
+use Rattle.links.specs.Links.{RecLink, Links}
 use Rattle.store.specs.Seek.{idIn, seekFrom, seek}
 
 -- ---- one link

@@ -4,7 +4,7 @@ use crate::place;
 use rows::record;
 use rows::record::Record;
 ghost use mathlib.Core.Path.{_≡_};
-ghost use Rattle.store.specs.Links.{Links, RecLink};
+ghost use Rattle.links.specs.Links.{Links, RecLink};
 ghost use Rattle.store.specs.Seek.{seek};
 
 // Where the link to the record with that id stands, or else the link that ends the chain, from the link at byte at on.

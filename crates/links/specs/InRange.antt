@@ -25,8 +25,8 @@ use Rattle.laws.specs.CellRow.{cell-link, cell-shape}
 use Rattle.laws.specs.Rep.{Rep, rec-there, cell-there, encode-rep}
 use Rattle.laws.specs.Walks.{head-byte}
 use Rattle.laws.specs.SoundValid.{sound-valid}
-use Rattle.store.specs.Byte.{first-byte}
-use Rattle.store.specs.Links.{count, RecLink, Links}
+use Rattle.links.specs.Byte.{first-byte}
+use Rattle.links.specs.Links.{count, RecLink, Links}
 
 -- sound bytes hold the store that they read as
 pub sound-rep : (role : ℕ) (b : List ℕ) → Bytes b → sound role b ≡ true → Rep (decode b) b

@@ -1,6 +1,8 @@
 pub mod Seek
 pub mod Sought
 pub mod InChains
+pub mod HeldAt
+pub mod Met
 pub mod Opening
 pub mod Opened
 pub mod Clearing

@@ -16,7 +16,7 @@ use Rattle.machine.specs.Layout.{recOff, cellOff, cellRow, encode, decode}
 use Rattle.machine.specs.Sound.{AtMost}
 use Rattle.machine.specs.Pieces.{newCell}
 use Rattle.machine.specs.Receive.{chunkStep}
-use Rattle.cells.specs.Links.{Links}
+use Rattle.links.specs.Links.{Links}
 use Rattle.cells.specs.InPlace.{spotFrom, spotIn, indexBehind, holdsIndex, rewritten, grown, inserted, chunked, LinkIn, CellIn, Ready}
 use Rattle.cells.specs.Read.{cell-in}
 use Rattle.cells.specs.Chunk.{ready-is}
@@ -58,7 +58,7 @@ insert-written b b1 b2 b3 b4 cell at k link i bytes q a e1 e2 e3 e4 =
 
 -- a record's link to its first cell is one
 pub first-in : (b : List ℕ) (at k : ℕ) → Links b → 1 ≤ k → k ≤ recCount → at ≡ recOff k → LinkIn b (at + 5)
-first-in b at k h a g q = rw q record { inside = omega (arith, h .long); leads = h .pieces k a g }
+first-in b at k h a g q = rw q record { inside = omega (arith, h .long); leads = h .firsts k a g }
 
 pub spot-in : (b : List ℕ) (link at k i : ℕ) → link ≡ spotFrom b 46 (at + 5) i → at ≡ recOff k → link ≡ spotIn b k i
 spot-in b link at k i e q = e ∙ ap (λ (o : ℕ). spotFrom b 46 (o + 5) i) q

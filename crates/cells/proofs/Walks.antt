@@ -16,7 +16,7 @@ use Rattle.machine.specs.Counting.{occurs}
 use Rattle.machine.specs.Layout.{countAt, cellOff, pieceStateAt, readCell}
 use Rattle.machine.specs.Sound.{sizes}
 use Rattle.machine.specs.Pieces.{joined}
-use Rattle.cells.specs.Links.{Links}
+use Rattle.links.specs.Links.{Links}
 use Rattle.cells.specs.Read.{cell-in, sizeOf, piece-state, piece-bytes, piece-size, cellsFrom, cells-end, cells-out, cells-more}
 use Rattle.cells.specs.InPlace.{pieceState, indexBehind, spotFrom}
 
@@ -33,7 +33,7 @@ pub met : (b : List ℕ) (x cell : ℕ) → Links b → x ≤ getD b countAt 0 �
 met b x cell h g z q =
     let a : 1 ≤ x = omega (arith, z) in
     let i = cell-in b h x a g in
-    record { some = a; most = i .most; fits = omega (arith, i .fits); leads = rw q (h .nextCell x a g) }
+    record { some = a; most = i .most; fits = omega (arith, i .fits); leads = rw q (h .cells x a g) }
 
 -- ---- the spot of an index
 
@@ -82,7 +82,7 @@ pub record Piece (b : List ℕ) (k from n : ℕ) : Type 0 where
 pub piece-here : (b : List ℕ) (k from n : ℕ) → Links b → 1 ≤ k → k ≤ getD b countAt 0 → from ≡ cellOff k → n ≡ num 2 (part b (from + 2) 2) → Piece b k from n
 piece-here b k from n h a g q e =
     let i = cell-in b h k a g in
-    let s : sizeOf b k ≤ largestPiece = h .size k a g in
+    let s : sizeOf b k ≤ largestPiece = h .sizes k a g in
     let z : n ≡ sizeOf b k = e ∙ ap (λ (o : ℕ). num 2 (part b (o + 2) 2)) q in
     record {
       fits = omega (arith, i .fits);

@@ -35,7 +35,9 @@ use Rattle.links.specs.Split.{Split, found-split}
 use Rattle.links.specs.Swap.{heldStore, row-is}
 use Rattle.steps.specs.Find.{find-key}
 use Rattle.steps.specs.Chunk.{chunk-valid}
-use Rattle.cells.specs.Links.{Links, links, sound-rep}
+use Rattle.links.specs.Links.{Links}
+use Rattle.links.specs.InRange.{links, sound-rep}
+use Rattle.laws.specs.SoundValid.{sound-valid}
 use Rattle.cells.specs.InPlace.{spotIn, holdsIndex, rewritten, insertedAt, inserted, chunked, PieceFits, Ready}
 use Rattle.cells.specs.Read.{cell-next}
 use Rattle.cells.specs.Spot.{below, onward, below-onward, put-new, HeldAt, put-held}
@@ -193,15 +195,17 @@ module _ (key : Key) (i : ℕ) (bytes : List ℕ) (r : Rec) (s : Store) (b : Lis
 pub ready-is : (b : List ℕ) (key : Key) (r : Rec) (i : ℕ) (bytes : List ℕ) → Bytes b → AtMost largestPiece bytes → Ready b key r i
     → chunked b (r .place) i bytes ≡ encode (chunkStep key i bytes (decode b))
 ready-is b key r i bytes y z h =
-    let v = sound-rep roleReceive b y (h .sound) in
-    chunk-is key i bytes r (decode b) b (v .0) (v .1) (h .found) z (h .top) (h .room)
+    let v = sound-valid roleReceive b y (h .sound) .0 in
+    let rep = sound-rep roleReceive b y (h .sound) in
+    chunk-is key i bytes r (decode b) b v rep (h .found) z (h .top) (h .room)
 
 -- what the code asks
 pub ready-asks : (b : List ℕ) (key : Key) (r : Rec) (i : ℕ) (bytes : List ℕ) → Bytes b → AtMost largestPiece bytes → Ready b key r i
     → Links b × PieceFits (r .place) i (length bytes) × (holdsIndex b (spotIn b (r .place) i) i ≡ false → 0 < getD b freeCellsAt 0)
 ready-asks b key r i bytes y z h =
-    let v = sound-rep roleReceive b y (h .sound) in (
+    let v = sound-valid roleReceive b y (h .sound) .0 in
+    let rep = sound-rep roleReceive b y (h .sound) in (
       links roleReceive b y (h .sound),
-      chunk-fits key i bytes r (decode b) b (v .0) (v .1) (h .found) z (h .top),
-      chunk-free key i bytes r (decode b) b (v .0) (v .1) (h .found) z (h .room),
+      chunk-fits key i bytes r (decode b) b v rep (h .found) z (h .top),
+      chunk-free key i bytes r (decode b) b v rep (h .found) z (h .room),
     )

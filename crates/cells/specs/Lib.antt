@@ -1,5 +1,4 @@
 pub mod InPlace
-pub mod Links
 pub mod Read
 pub mod Spot
 pub mod Held

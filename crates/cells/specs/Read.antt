@@ -12,7 +12,7 @@ use Rattle.machine.specs.Limits.{largestPiece, cellBytes}
 use Rattle.machine.specs.Values.{Cell}
 use Rattle.machine.specs.Chains.{link, walk}
 use Rattle.machine.specs.Layout.{countAt, sizeAt, pieceStateAt, bytesAt, sizeWidth, cellOff, cellAt, cellOf, readCell}
-use Rattle.cells.specs.Links.{Links}
+use Rattle.links.specs.Links.{Links}
 use Rattle.cells.specs.InPlace.{CellIn}
 
 -- ---- a cell

@@ -19,7 +19,7 @@ ghost use Rattle.machine.specs.Limits.{recCount, recBytes};
 ghost use Rattle.machine.specs.Values.{Rec, Key};
 ghost use Rattle.machine.specs.Layout.{freeCellsAt, recOff, encode, decode};
 ghost use Rattle.machine.specs.Receive.{chunkStep};
-ghost use Rattle.cells.specs.Links.{Links};
+ghost use Rattle.links.specs.Links.{Links};
 ghost use Rattle.cells.specs.InPlace.{spotIn, holdsIndex, grown, inserted, chunked, LinkIn, PieceFits, Ready};
 
 // The larger of two numbers.

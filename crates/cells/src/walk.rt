@@ -20,7 +20,7 @@ ghost use Rattle.machine.specs.Counting.{occurs};
 ghost use Rattle.machine.specs.Layout.{countAt, readCell, readCells};
 ghost use Rattle.machine.specs.Sound.{sizes};
 ghost use Rattle.machine.specs.Pieces.{joined};
-ghost use Rattle.cells.specs.Links.{Links};
+ghost use Rattle.links.specs.Links.{Links};
 ghost use Rattle.cells.specs.InPlace.{pieceState, spotFrom, LinkIn};
 
 // From the link at byte `at` on, the byte of the link to the first cell whose index is not below `index`, or of the 0 that ends the chain.

@@ -2,3 +2,4 @@ pub mod Following
 pub mod Opens
 pub mod Clears
 pub mod Releases
+pub mod Fields

@@ -2,11 +2,11 @@
 -- Assumes nothing.
 use Prim.Native.Nat.{ℕ, suc, _<_}
 use native.Mathlib.Omega.{arith}
-use mathlib.Core.Path.{_≡_, refl}
+use mathlib.Core.Path.{_≡_, refl, sym, ap, _∙_}
 use mathlib.Core.Bool.{true}
-use mathlib.Core.List.{List}
+use mathlib.Core.List.{List, [], _∷_}
 use mathlib.Core.Option.{Option, none, some}
-use lib.ListN.{getD}
+use lib.ListN.{length, getD}
 use lib.Dec.{ltb}
 use borrow.Author.Tests.{lt-ltb, le-ltb}
 use Rattle.octets.specs.Octets.{Bytes}
@@ -16,8 +16,11 @@ use Rattle.machine.specs.Codes.{roleReceive}
 use Rattle.machine.specs.Values.{Rec, Key, sameKey}
 use Rattle.machine.specs.Find.{isSome}
 use Rattle.machine.specs.Receive.{recKey, found}
-use Rattle.machine.specs.Layout.{freeAt, heldAt, wholeAt, decode}
+use Rattle.machine.specs.Layout.{freeAt, heldAt, wholeAt, freeCellsAt, decode}
 use Rattle.machine.specs.Sound.{sound, RecSized, Valid}
+use Rattle.machine.specs.Chains.{first}
+use Rattle.laws.specs.Counting.{Few, few-inside}
+use Rattle.laws.specs.Walks.{head-byte, recs-once, cells-once}
 use Rattle.laws.specs.Rep.{Rep}
 use Rattle.laws.specs.SoundValid.{sound-valid}
 use Rattle.links.specs.Split.{found-split}
@@ -39,6 +42,11 @@ takable b h t g = record { sound = t; linked = record { links = h; link = h .who
 
 placed : (l : List Rec) → All (λ (r : Rec). (0 < r .place) × RecSized r) l → All (λ (r : Rec). 0 < r .place) l
 placed l h = all-to (λ (r : Rec). (0 < r .place) × RecSized r) (λ (r : Rec). 0 < r .place) l (λ r z. z .0) h
+
+-- places count from 1, so a list of them has a first one where it is not empty
+some-first : (n : ℕ) (ps : List ℕ) → Few n ps → ltb 0 (first ps) ≡ ltb 0 (length ps)
+some-first n [] u = refl
+some-first n (p ∷ ps) u = lt-ltb 0 p (few-inside n (p ∷ ps) u .0 .0) ∙ sym (lt-ltb 0 (length (p ∷ ps)) (omega arith))
 
 module _ (role : ℕ) (b : List ℕ) (y : Bytes b) (t : sound role b ≡ true) where
   valid : Valid role (decode b)
@@ -72,6 +80,22 @@ module _ (role : ℕ) (b : List ℕ) (y : Bytes b) (t : sound role b ≡ true) w
             all-found sameKey recKey (λ (x : Rec). 0 < x .place) k r (decode b .whole) e (placed (decode b .whole) (whole-leads role (decode b) valid b rep .fine)),
           ))
 
+  -- links that are found stand inside the store
+  pub held-inside : (k : Key) → seek k b heldAt < length b
+  held-inside k = let l = links role b y t in omega (arith, l .long, seek-link k b (suc recCount) heldAt l (l .held) .inside)
+
+  pub whole-inside : (k : Key) → seek k b wholeAt < length b
+  whole-inside k = let l = links role b y t in omega (arith, l .long, seek-link k b (suc recCount) wholeAt l (l .whole) .inside)
+
   -- a held record that is found can be dropped
   pub droppable : (k : Key) → 0 < getD b (seek k b heldAt) 0 → Droppable (seek k b heldAt) b
   droppable k g = let h = links role b y t in record { links = h; link = seek-link k b (suc recCount) heldAt h (h .held); some = g }
+
+  -- whether there is a free record, and a free cell
+  pub free-is : ltb 0 (getD b freeAt 0) ≡ ltb 0 (length (decode b .free))
+  free-is = ap (ltb 0) (head-byte role (decode b) valid b rep freeAt (omega arith)) ∙ some-first recCount (decode b .free) (λ k. omega (arith, recs-once role (decode b) valid k))
+
+  pub freeCells-is : ltb 0 (getD b freeCellsAt 0) ≡ ltb 0 (length (decode b .freeCells))
+  freeCells-is =
+      ap (ltb 0) (head-byte role (decode b) valid b rep freeCellsAt (omega arith))
+      ∙ some-first (decode b .setup .cells) (decode b .freeCells) (λ k. omega (arith, cells-once role (decode b) valid k))

@@ -1,14 +1,15 @@
 -- The held record that a link leads to. Operations on a held record are handed the byte where the link to it stands; what they do is said about the
 -- record that the bytes there hold.
-use Prim.Native.Nat.{ℕ, _+_, _<_}
+use Prim.Native.Nat.{ℕ, _≤_, _<_}
 use mathlib.Core.Path.{_≡_}
 use mathlib.Core.Bool.{true, cond}
 use mathlib.Core.List.{List}
 use mathlib.Core.Option.{Option, none, some}
-use lib.ListN.{getD}
+use lib.ListN.{length, getD}
 use lib.Dec.{eqb}
+use Rattle.machine.specs.Limits.{recCount, storeBytes}
 use Rattle.machine.specs.Values.{Rec, Key}
-use Rattle.machine.specs.Layout.{heldAt, readRec}
+use Rattle.machine.specs.Layout.{heldAt, recAt, readRec}
 use Rattle.machine.specs.Sound.{sound}
 use Rattle.store.specs.Seek.{idIn, seek}
 
@@ -16,9 +17,12 @@ use Rattle.store.specs.Seek.{idIn, seek}
 abbrev pub metAt : List ℕ → ℕ → Option Rec
 metAt b at = cond (eqb (getD b at 0) 0) none (some (readRec b (getD b at 0)))
 
--- the place that the link at byte `at` leads to, the record there, and its key
+-- the place that the link at byte `at` leads to, the row and the record there, and its key
 abbrev pub placeAt : List ℕ → ℕ → ℕ
 placeAt b at = getD b at 0
+
+abbrev pub rowIn : List ℕ → ℕ → List ℕ
+rowIn b at = recAt b (placeAt b at)
 
 abbrev pub recIn : List ℕ → ℕ → Rec
 recIn b at = readRec b (placeAt b at)
@@ -26,8 +30,20 @@ recIn b at = readRec b (placeAt b at)
 abbrev pub keyIn : List ℕ → ℕ → Key
 keyIn b at = idIn b (placeAt b at)
 
+-- a sound store, of some role
+pub record Sound (b : List ℕ) : Type 0 where
+  pub role : ℕ
+  pub is : sound role b ≡ true
+
 -- in a sound store b of a role, the link at byte `at` is the one that leads to a held record
 pub record HeldAt (role : ℕ) (b : List ℕ) (at : ℕ) : Type 0 where
   pub sound : sound role b ≡ true
   pub some : 0 < placeAt b at
   pub is : at ≡ seek (keyIn b at) b heldAt
+
+-- the link at byte `at` leads to a record; b has room for all records
+pub record Placed (b : List ℕ) (at : ℕ) : Type 0 where
+  pub some : 0 < placeAt b at
+  pub small : placeAt b at ≤ recCount
+  pub inside : at < storeBytes 0
+  pub long : storeBytes 0 ≤ length b

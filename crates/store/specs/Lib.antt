@@ -1,6 +1,7 @@
 pub mod Seek
 pub mod Sought
 pub mod InChains
+pub mod Refuse
 pub mod HeldAt
 pub mod Met
 pub mod Opening

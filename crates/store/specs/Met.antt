@@ -15,7 +15,7 @@ use Rattle.machine.specs.Limits.{recCount, recBytes}
 use Rattle.machine.specs.Codes.{heldKind}
 use Rattle.machine.specs.Values.{Rec, Store, Key, sameKey}
 use Rattle.machine.specs.Chains.{first}
-use Rattle.machine.specs.Layout.{heldAt, wholeAt, idAt, idWidth, recOff, recPlace, recRow, recAt, recOf, recChain, readRec, decode}
+use Rattle.machine.specs.Layout.{heldAt, wholeAt, idAt, idWidth, recOff, recPlace, recRow, recAt, slotsAt, firstCellAt, headOf, sendingOf, recOf, recChain, readCells, readRec, decode}
 use Rattle.machine.specs.Sound.{sound, RecSized, Valid}
 use Rattle.machine.specs.Receive.{recKey, found}
 use Rattle.laws.specs.Keys.{key-eq, key-refl}
@@ -29,8 +29,9 @@ use Rattle.links.specs.Unheld
 use Rattle.steps.specs.Find.{all-found, find-key}
 use Rattle.steps.specs.Held.{held-fine, held-sized}
 use Rattle.store.specs.Seek.{idIn, seek}
+use Rattle.store.specs.Sought.{seek-link}
 use Rattle.store.specs.InChains.{held-found, held-none, whole-found, whole-none}
-use Rattle.store.specs.HeldAt.{metAt, placeAt, recIn, keyIn, HeldAt}
+use Rattle.store.specs.HeldAt.{metAt, placeAt, rowIn, recIn, keyIn, HeldAt, Placed}
 
 -- a record that is read has the key in its row
 pub read-key : (b : List ℕ) (p : ℕ) → recKey (readRec b p) ≡ idIn b p
@@ -120,3 +121,28 @@ module _ (role : ℕ) (b : List ℕ) (y : Bytes b) (at : ℕ) (h : HeldAt role b
   pub here-row : recAt b (placeAt b at) ≡ recRow (heldKind (decode b .setup .role)) (first (map recPlace (here-split .behind))) r
   unfolding recOf
   here-row = row-is role (decode b) (valid role b y (h .sound)) b (rep role b y (h .sound)) (here-split .before) r (here-split .behind) (here-split .is)
+
+  pub here-placed : Placed b at
+  here-placed =
+      let l = links role b y (h .sound) in
+      let k = seek-link (keyIn b at) b (suc recCount) heldAt l (l .held) in
+      record { some = h .some; small = here-within .1; inside = omega (arith, k .inside, h .is); long = omega (arith, l .long) }
+
+-- ---- its fields
+
+module _ (b : List ℕ) (at : ℕ) where
+  pub rec-head : recIn b at .head ≡ headOf (rowIn b at)
+  unfolding recOf
+  rec-head = refl
+
+  pub rec-sending : recIn b at .sending ≡ sendingOf (rowIn b at)
+  unfolding recOf
+  rec-sending = refl
+
+  pub rec-slots : recIn b at .slots ≡ getD (rowIn b at) slotsAt 0
+  unfolding recOf
+  rec-slots = refl
+
+  pub rec-cells : recIn b at .cells ≡ readCells b (getD (rowIn b at) firstCellAt 0)
+  unfolding recOf
+  rec-cells = refl

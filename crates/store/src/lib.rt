@@ -2,6 +2,7 @@
 // calls above it have established, that links are in range and that the record they work on is there.
 
 pub mod clear;
+pub mod field;
 pub mod find;
 pub mod open;
 pub mod place;

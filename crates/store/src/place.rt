@@ -5,10 +5,12 @@ ghost use Prim.Native.Nat.{_<_, _≤_};
 ghost use Rattle.machine.specs.Limits.{recCount, mostCells};
 ghost use Rattle.machine.specs.Layout.{recOff, cellOff};
 
-// The kind of a record that arrives, and the bytes of an id.
+// The kind of a record that arrives, and the bytes of an id and of an address.
 pub const ARRIVING: u8 = rows::record::ARRIVING as u8;
 
 pub const ID_SIZE: usize = rows::record::Record::SOURCE - rows::record::Record::ID;
+
+pub const ADDRESS_SIZE: usize = rows::record::Record::DESTINATION - rows::record::Record::SOURCE;
 
 // Where the record at a place starts.
 pub fn rec_off(place: u8) -> usize

@@ -8,6 +8,7 @@ use mathlib.Core.Option.{Option, none, some}
 use lib.ListN.{length, getD}
 use lib.Dec.{eqb}
 use Rattle.machine.specs.Limits.{recCount, storeBytes}
+use Rattle.machine.specs.Codes.{roleReceive, roleSend}
 use Rattle.machine.specs.Values.{Rec, Key}
 use Rattle.machine.specs.Layout.{heldAt, recAt, readRec}
 use Rattle.machine.specs.Sound.{sound}
@@ -34,6 +35,13 @@ keyIn b at = idIn b (placeAt b at)
 pub record Sound (b : List ℕ) : Type 0 where
   pub role : ℕ
   pub is : sound role b ≡ true
+
+-- a sound store to receive, and one to send
+abbrev pub Receives : List ℕ → Type 0
+Receives b = sound roleReceive b ≡ true
+
+abbrev pub Sends : List ℕ → Type 0
+Sends b = sound roleSend b ≡ true
 
 -- in a sound store b of a role, the link at byte `at` is the one that leads to a held record
 pub record HeldAt (role : ℕ) (b : List ℕ) (at : ℕ) : Type 0 where

@@ -1,1 +1,3 @@
 pub mod Inits
+pub mod Takes
+pub mod Taken

@@ -1,6 +1,5 @@
 // Init: a message is announced, with its length and its topic.
 
-use crate::number;
 use packet::header;
 use packet::init::MessageInit;
 use topic::Admission;
@@ -19,9 +18,9 @@ fn admission(rules: &[u8], topic: &[u8], from: &[u8; 16]) -> u64
     ensures { λ r. ⌜ r ≡ numberOf (admissionOf (now (rules .entry)) (now (topic .entry)) (now (from .entry))) ⌝ }
 {
     match topic::admission(rules, topic, from) {
-        Admission::Malformed => number::BAD_RULES,
-        Admission::Closed => number::CLOSED_TOPIC,
-        Admission::Open => number::DONE,
+        Admission::Malformed => answer::BAD_RULES,
+        Admission::Closed => answer::CLOSED_TOPIC,
+        Admission::Open => answer::DONE,
     }
 }
 
@@ -31,7 +30,7 @@ fn rules_refusal(frame: &[u8], from: &[u8; 16], rules: &[u8]) -> u64
     ensures { λ r. ⌜ r ≡ refusal (rulesRow (arrival (now (frame .entry)) (now (from .entry)) (now (from .entry)) (now (rules .entry)) 0)) ⌝ }
 {
     if header::is_reply(header::flags(frame)) {
-        return number::DONE;
+        return answer::DONE;
     }
     admission(rules, MessageInit::topic(frame), from)
 }
@@ -42,21 +41,21 @@ fn refusal(recv: &[u8], frame: &[u8], from: &[u8; 16], rules: &[u8]) -> u64
     ensures { λ r. ⌜ r ≡ refusal (initRow (arrival (now (frame .entry)) (now (from .entry)) (now (from .entry)) (now (rules .entry)) 0) (decode (now (recv .entry)))) ⌝ }
 {
     let rules = rules_refusal(frame, from, rules);
-    if rules != number::DONE {
+    if rules != answer::DONE {
         return rules;
     }
     let id = header::id(frame);
     if store::find::is_whole(recv, id) {
-        return number::ALREADY_WHOLE;
+        return answer::ALREADY_WHOLE;
     }
     if MessageInit::length(frame) > rows::message::LONGEST {
-        return number::TOO_LONG;
+        return answer::TOO_LONG;
     }
     if store::find::is_held(recv, id) {
-        return number::DONE;
+        return answer::DONE;
     }
     if store::find::is_free(recv) {
-        return number::DONE;
+        return answer::DONE;
     }
-    number::NO_RECORD
+    answer::NO_RECORD
 }

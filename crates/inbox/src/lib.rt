@@ -2,4 +2,4 @@
 // message.rs, `handle_message`. Each step is handed a sound store and answers document 01's number; a refusal changes nothing.
 
 pub mod init;
-pub mod number;
+pub mod take;

@@ -21,3 +21,6 @@ module _ (b : List ℕ) (row p : ℕ) (e : row ≡ recOff p) (o : ℕ) where
 
   pub bytes-are : (n : ℕ) → o + n ≤ recBytes → take (row + o + n - (row + o)) (drop (row + o) b) ≡ part (recAt b p) o n
   bytes-are n h = part-of b (row + o) (row + o + n) n (omega arith) ∙ part-is n h
+
+pub row-is : (b : List ℕ) (row p : ℕ) → row ≡ recOff p → take (row + recBytes - row) (drop row b) ≡ recAt b p
+row-is b row p e = part-of b row (row + recBytes) recBytes (omega arith) ∙ ap (λ (x : ℕ). part b x recBytes) e

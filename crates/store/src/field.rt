@@ -1,13 +1,14 @@
 // The fields of the record that a link leads to; `at` is the byte where the link stands.
 
 use crate::place;
+use rows::record;
 use rows::record::Record;
 ghost use mathlib.Core.Path.{_≡_};
 ghost use Prim.Native.Nat.{_+_, _<_, _≤_};
 ghost use Rattle.octets.specs.Octets.{part};
 ghost use lib.ListN.{length, getD};
 ghost use Rattle.machine.specs.Limits.{recBytes};
-ghost use Rattle.machine.specs.Layout.{numberWidth, slotsAt, recOff, numAt, headOf, sendingOf};
+ghost use Rattle.machine.specs.Layout.{numberWidth, firstCellAt, slotsAt, recOff, numAt, headOf, sendingOf};
 ghost use Rattle.store.specs.HeldAt.{placeAt, rowIn, Placed};
 
 // Where the record's row starts.
@@ -121,4 +122,21 @@ pub fn destination(store: &[u8], at: usize) -> &[u8]
     ensures { λ r. ⌜ now r ≡ headOf (rowIn (now (store .entry)) at) .destination ⌝ }
 {
     bytes(store, at, Record::DESTINATION, place::ADDRESS_SIZE)
+}
+
+// The whole row, as that part of the store.
+pub fn whole_row(store: &[u8], at: usize) -> &[u8]
+    requires { ⌜ Placed (now store) at ⌝ }
+    ensures { λ r. ⌜ now r ≡ rowIn (now (store .entry)) at ⌝ }
+{
+    let a = row(store, at);
+    &store[a..a + record::BYTES]
+}
+
+// The place of its first piece, 0 for none.
+pub fn first_cell(store: &[u8], at: usize) -> usize
+    requires { ⌜ Placed (now store) at ⌝ }
+    ensures { λ r. ⌜ r ≡ getD (rowIn (now (store .entry)) at) firstCellAt 0 ⌝ }
+{
+    octets::small(byte(store, at, Record::FIRST_CELL))
 }

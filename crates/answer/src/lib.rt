@@ -1,0 +1,76 @@
+// What a call answers: document 01's number (0: done), the run's length and the wake mark.
+
+ghost use mathlib.Core.Path.{_≡_};
+
+#[repr(C)]
+pub struct Answer {
+    pub number: u64,
+    pub run: u64,
+    pub wake: u64,
+}
+
+pub const DONE: u64 = 0;
+
+pub const BAD_FRAME: u64 = 1;
+
+pub const SHORT_OUTPUT: u64 = 2;
+
+pub const BAD_RULES: u64 = 3;
+
+pub const CLOSED_TOPIC: u64 = 4;
+
+pub const ALREADY_WHOLE: u64 = 5;
+
+pub const TOO_LONG: u64 = 6;
+
+pub const NO_RECORD: u64 = 7;
+
+pub const UNKNOWN_ID: u64 = 8;
+
+pub const PAST_END: u64 = 9;
+
+pub const HIGH_INDEX: u64 = 10;
+
+pub const SHORT_PIECE: u64 = 11;
+
+pub const NO_CELL: u64 = 12;
+
+pub const COUNT: u64 = 13;
+
+pub const GAP: u64 = 14;
+
+pub const TOTAL: u64 = 15;
+
+pub const SUM: u64 = 16;
+
+pub const NO_KEY: u64 = 17;
+
+pub const WRONG_STATE: u64 = 18;
+
+pub const NO_SUCH_PIECE: u64 = 19;
+
+pub const NO_WORK: u64 = 20;
+
+pub const TOPIC_TOO_LARGE: u64 = 21;
+
+pub const ID_IN_USE: u64 = 22;
+
+pub const NONE_WHOLE: u64 = 23;
+
+pub const CLOCK: u64 = 24;
+
+pub const UNSOUND_STORE: u64 = 25;
+
+// A refusal: nothing is sent, nobody wakes.
+pub fn refuse(number: u64) -> Answer
+    ensures { λ r. ⌜ (r .number ≡ number) × (r .run ≡ 0) × (r .wake ≡ 0) ⌝ }
+{
+    Answer { number: number, run: 0, wake: 0 }
+}
+
+// Done, with a run of that length.
+pub fn sent(run: u64) -> Answer
+    ensures { λ r. ⌜ (r .number ≡ 0) × (r .run ≡ run) × (r .wake ≡ 0) ⌝ }
+{
+    Answer { number: DONE, run: run, wake: 0 }
+}

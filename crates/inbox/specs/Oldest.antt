@@ -1,0 +1,81 @@
+-- The oldest whole record, in sound bytes. Assumes nothing.
+use Prim.Native.Nat.{ℕ, suc, _+_, _≤_, _<_}
+use native.Mathlib.Omega.{arith}
+use mathlib.Core.Path.{_≡_, refl, sym, ap, _∙_, subst}
+use mathlib.Core.Bool.{true}
+use mathlib.Core.List.{List, [], _∷_, _++_, map}
+use lib.ListN.{length, getD}
+use borrow.Author.Tests.{eq-eqb, ne-eqb, eqb-true}
+use Rattle.octets.specs.Octets.{Bytes}
+use Rattle.octets.specs.Lists.{All, all-right}
+use Rattle.octets.specs.Parts.{getD-part}
+use Rattle.machine.specs.Limits.{recCount, recBytes, storeBytes}
+use Rattle.machine.specs.Codes.{roleReceive, kindWhole}
+use Rattle.machine.specs.Values.{Rec, Store}
+use Rattle.machine.specs.Chains.{link, walk}
+use Rattle.machine.specs.Layout.{wholeAt, countAt, firstCellAt, recOff, recAt, headOf, recOf, readCells, readRec, decode}
+use Rattle.machine.specs.Sound.{sizes, recFits, HeadSized, RecSized, Valid}
+use Rattle.laws.specs.Fine.{Fine, fits-fine, fine-complete}
+use Rattle.laws.specs.SoundValid.{sound-valid}
+use Rattle.links.specs.Links.{Links}
+use Rattle.links.specs.InRange.{links}
+use Rattle.store.specs.HeldAt.{placeAt, rowIn, recIn, Placed, Receives}
+
+-- a sound store to receive, with a whole record
+pub record Oldest (b : List ℕ) : Type 0 where
+  pub sound : Receives b
+  pub some : 0 < getD b wholeAt 0
+
+-- the whole records, as their chain starts
+pub none-whole : (b : List ℕ) → getD b wholeAt 0 ≡ 0 → decode b .whole ≡ []
+unfolding decode walk
+none-whole b e = rw (eq-eqb (getD b wholeAt 0) 0 e)
+
+-- what follows the oldest
+abbrev pub younger : List ℕ → List Rec
+younger b = map (readRec b) (walk (link (recAt b)) recCount (link (recAt b) (getD b wholeAt 0)))
+
+pub some-whole : (b : List ℕ) → 0 < getD b wholeAt 0 → decode b .whole ≡ recIn b wholeAt ∷ younger b
+unfolding decode walk
+some-whole b h = rw (ne-eqb (getD b wholeAt 0) 0 (λ e. omega arith))
+
+module _ (b : List ℕ) (y : Bytes b) (h : Oldest b) where
+  abbrev r : Rec
+  r = recIn b wholeAt
+
+  in-range : Links b
+  in-range = links roleReceive b y (h .sound)
+
+  pub oldest-placed : Placed b wholeAt
+  oldest-placed = record { some = h .some; small = in-range .whole .small; inside = omega arith; long = omega (arith, in-range .long) }
+
+  valid : Valid roleReceive (decode b)
+  valid = sound-valid roleReceive b y (h .sound) .0
+
+  pub oldest-sized : RecSized r
+  oldest-sized = subst (All RecSized) (some-whole b (h .some)) (all-right RecSized (decode b .held) (decode b .whole) (valid .sized)) .0
+
+  pub oldest-fine : Fine roleReceive kindWhole r
+  oldest-fine = fits-fine roleReceive kindWhole r (subst (All (λ (x : Rec). recFits roleReceive kindWhole x ≡ true)) (some-whole b (h .some)) (valid .whole) .0)
+
+  -- it is complete
+  pub oldest-sizes : sizes (r .cells) ≡ r .head .total
+  oldest-sizes = fine-complete roleReceive kindWhole r (λ e. omega arith) oldest-fine .1
+
+  -- its fields and its pieces, from its row
+  pub oldest-head : HeadSized (headOf (rowIn b wholeAt))
+  unfolding recOf
+  oldest-head = oldest-sized .head
+
+  pub oldest-first : getD (rowIn b wholeAt) firstCellAt 0 ≤ getD b countAt 0
+  oldest-first =
+      omega (arith, getD-part b (recOff (placeAt b wholeAt)) recBytes firstCellAt (omega arith), in-range .firsts (placeAt b wholeAt) (h .some) (in-range .whole .small))
+
+  pub oldest-pieces : sizes (readCells b (getD (rowIn b wholeAt) firstCellAt 0)) ≡ r .head .total
+  unfolding recOf
+  oldest-pieces = oldest-sizes
+
+-- its length, from its row
+pub total-is : (b : List ℕ) → headOf (rowIn b wholeAt) .total ≡ recIn b wholeAt .head .total
+unfolding recOf
+total-is b = refl

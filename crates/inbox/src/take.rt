@@ -1,0 +1,69 @@
+// Take: the oldest whole message leaves the store.
+
+use answer::Answer;
+use packet::header;
+use packet::run;
+use rows::head::Head;
+use rows::record;
+use store::field;
+ghost use mathlib.Core.Path.{_≡_};
+ghost use mathlib.Core.List.{_++_};
+ghost use Prim.Native.Nat.{_+_, _≤_};
+ghost use lib.ListN.{length};
+ghost use Rattle.octets.specs.Octets.{put};
+ghost use Rattle.packet.specs.Outgoing.{entry, readPacket};
+ghost use Rattle.machine.specs.Limits.{recBytes};
+ghost use Rattle.machine.specs.Layout.{wholeAt, decode};
+ghost use Rattle.machine.specs.Pieces.{joined};
+ghost use Rattle.machine.specs.Refusals.{refusal};
+ghost use Rattle.machine.specs.Calls.{oldestRow, takeRoom, takeAt};
+ghost use Rattle.store.specs.HeldAt.{rowIn, recIn, Receives};
+ghost use Rattle.inbox.specs.Oldest.{Oldest};
+
+// What a read packet takes in a run.
+const READ_ROOM: usize = run::PACKET + header::SIZE;
+
+// The read packet of the oldest whole message, from its destination to its source.
+fn put_read(recv: &[u8], run: &mut [u8])
+    requires { ⌜ Oldest (now recv) × (takeRoom ≤ length (now run)) ⌝ }
+    ensures { λ _. ⌜ now (run .exit) ≡ put (now (run .entry)) 0 (entry (recIn (now (recv .entry)) wholeAt .head .destination) (recIn (now (recv .entry)) wholeAt .head .source) (readPacket (recIn (now (recv .entry)) wholeAt .head .id))) ⌝ }
+{
+    run::put_header(
+        run,
+        0,
+        field::destination(recv, Head::WHOLE),
+        field::source(recv, Head::WHOLE),
+        field::id(recv, Head::WHOLE),
+        header::FLAG_READ,
+    );
+}
+
+// The oldest whole record as it stands, then its data.
+fn put_message(recv: &[u8], taken: &mut [u8])
+    requires { ⌜ Oldest (now recv) × (recBytes + recIn (now recv) wholeAt .head .total ≤ length (now taken)) ⌝ }
+    ensures { λ _. ⌜ now (taken .exit) ≡ put (now (taken .entry)) 0 (rowIn (now (recv .entry)) wholeAt ++ joined (recIn (now (recv .entry)) wholeAt .cells)) ⌝ }
+{
+    octets::copy_in(taken, 0, field::whole_row(recv, Head::WHOLE));
+    cells::walk::join(recv, field::first_cell(recv, Head::WHOLE), &mut taken[record::BYTES..]);
+}
+
+// Takes the oldest whole message out: its record and its data into `taken`, its read packet into `run`.
+pub fn take(recv: &mut [u8], taken: &mut [u8], run: &mut [u8]) -> Answer
+    requires { ⌜ Receives (now recv) ⌝ }
+    ensures { λ r. ⌜ record { number = r .number; run = r .run; wake = r .wake; recv = now (recv .exit); taken = now (taken .exit); out = now (run .exit) } ≡ takeAt (refusal (oldestRow (decode (now (recv .entry)) .whole) (now (taken .entry)) (now (run .entry)))) (decode (now (recv .entry)) .whole) (now (recv .entry)) (now (taken .entry)) (now (run .entry)) ⌝ }
+{
+    if recv[Head::WHOLE] == 0 {
+        return answer::refuse(answer::NONE_WHOLE);
+    }
+    if run.len() < READ_ROOM {
+        return answer::refuse(answer::SHORT_OUTPUT);
+    }
+    let total = field::total(recv, Head::WHOLE) as usize;
+    if taken.len() < record::BYTES + total {
+        return answer::refuse(answer::SHORT_OUTPUT);
+    }
+    put_read(recv, run);
+    put_message(recv, taken);
+    store::release::take_first(recv);
+    answer::sent(READ_ROOM as u64)
+}

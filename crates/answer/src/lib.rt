@@ -65,12 +65,20 @@ pub const UNSOUND_STORE: u64 = 25;
 pub fn refuse(number: u64) -> Answer
     ensures { λ r. ⌜ (r .number ≡ number) × (r .run ≡ 0) × (r .wake ≡ 0) ⌝ }
 {
-    Answer { number: number, run: 0, wake: 0 }
+    Answer {
+        number: number,
+        run: 0,
+        wake: 0,
+    }
 }
 
 // Done, with a run of that length.
 pub fn sent(run: u64) -> Answer
     ensures { λ r. ⌜ (r .number ≡ 0) × (r .run ≡ run) × (r .wake ≡ 0) ⌝ }
 {
-    Answer { number: DONE, run: run, wake: 0 }
+    Answer {
+        number: DONE,
+        run: run,
+        wake: 0,
+    }
 }

@@ -68,7 +68,6 @@ module _ (b taken out : List ℕ) where
         sent = entry (r .head .destination) (r .head .source) (readPacket (r .head .id))
 
         long : length sent ≡ takeRoom
-
         long =
             let z = oldest-sized b y o .head in
             length-entry (r .head .destination) (r .head .source) (readPacket (r .head .id)) (z .destination .0) (z .source .0)

@@ -44,7 +44,11 @@ fn put_message(recv: &[u8], taken: &mut [u8])
     ensures { λ _. ⌜ now (taken .exit) ≡ put (now (taken .entry)) 0 (rowIn (now (recv .entry)) wholeAt ++ joined (recIn (now (recv .entry)) wholeAt .cells)) ⌝ }
 {
     octets::copy_in(taken, 0, field::whole_row(recv, Head::WHOLE));
-    cells::walk::join(recv, field::first_cell(recv, Head::WHOLE), &mut taken[record::BYTES..]);
+    cells::walk::join(
+        recv,
+        field::first_cell(recv, Head::WHOLE),
+        &mut taken[record::BYTES..],
+    );
 }
 
 // Takes the oldest whole message out: its record and its data into `taken`, its read packet into `run`.

@@ -24,12 +24,11 @@ first-cell-requires : tie.Need-first-cell-requires
 first-cell-requires c κs = oldest-placed _ (λ i. c .before .before .before .before .before .before .shared-slice-known .given i .fits) (c .before .before .before .before .before .before .before .pre .0)
 
 join-requires : tie.Need-join-requires
-join-requires c κs =
-    (
-      links roleReceive _ (λ i. c .before .before .before .before .before .before .before .before .shared-slice-known .given i .fits) (c .before .before .before .before .before .before .before .before .before .pre .0 .sound),
-      omega (arith, c .before .first-cell .ensures, oldest-first _ (λ i. c .before .before .before .before .before .before .before .before .shared-slice-known .given i .fits) (c .before .before .before .before .before .before .before .before .before .pre .0)),
-      omega (arith, c .before .before .before .before .before .before .before .before .before .pre .1, ap (λ (x : ℕ). sizes (readCells (c .before .before .before .before .before .before .before .before .before .args .recv .now) x)) (c .before .first-cell .ensures), oldest-pieces _ (λ i. c .before .before .before .before .before .before .before .before .shared-slice-known .given i .fits) (c .before .before .before .before .before .before .before .before .before .pre .0)),
-    )
+join-requires c κs = (
+  links roleReceive _ (λ i. c .before .before .before .before .before .before .before .before .shared-slice-known .given i .fits) (c .before .before .before .before .before .before .before .before .before .pre .0 .sound),
+  omega (arith, c .before .first-cell .ensures, oldest-first _ (λ i. c .before .before .before .before .before .before .before .before .shared-slice-known .given i .fits) (c .before .before .before .before .before .before .before .before .before .pre .0)),
+  omega (arith, c .before .before .before .before .before .before .before .before .before .pre .1, ap (λ (x : ℕ). sizes (readCells (c .before .before .before .before .before .before .before .before .before .args .recv .now) x)) (c .before .first-cell .ensures), oldest-pieces _ (λ i. c .before .before .before .before .before .before .before .before .shared-slice-known .given i .fits) (c .before .before .before .before .before .before .before .before .before .pre .0)),
+)
 
 returns : tie.Need-returns
 returns c = message-is _ (oldest-placed _ (λ i. c .before .before .before .before .before .before .before .before .before .before .before .shared-slice-known .given i .fits) (c .before .before .before .before .before .before .before .before .before .before .before .before .pre .0)) _ _ _ _ _ _ (omega (arith, c .before .before .before .before .before .before .before .before .before .before .before .before .pre .1, oldest-sizes _ (λ i. c .before .before .before .before .before .before .before .before .before .before .before .shared-slice-known .given i .fits) (c .before .before .before .before .before .before .before .before .before .before .before .before .pre .0))) (c .before .before .before .before .before .before .before .before .whole-row .ensures) (c .before .before .before .before .before .before .before .copy-in .ensures) (c .before .before .before .before .first-cell .ensures) refl (c .before .before .join .ensures .1)

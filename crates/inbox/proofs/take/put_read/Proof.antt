@@ -21,8 +21,7 @@ id-requires c κs = oldest-placed _ (λ i. c .before .before .before .before .sh
 
 put-header-requires : tie.Need-put-header-requires
 put-header-requires c κs =
-    let h = oldest-head _ (λ i. c .before .before .before .before .before .shared-slice-known .given i .fits) (c .before .before .before .before .before .before .pre .0) in
-    (
+    let h = oldest-head _ (λ i. c .before .before .before .before .before .shared-slice-known .given i .fits) (c .before .before .before .before .before .before .pre .0) in (
       record {
         source = ap length (c .before .before .destination .ensures) ∙ h .destination .0;
         target = ap length (c .before .source .ensures) ∙ h .source .0;

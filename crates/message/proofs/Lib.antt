@@ -1,0 +1,2 @@
+pub mod Setups
+pub mod Takes

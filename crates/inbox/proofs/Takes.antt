@@ -16,7 +16,7 @@ use Rattle.machine.specs.Pieces.{joined}
 use Rattle.machine.specs.Sound.{sizes}
 use Rattle.steps.specs.ByIndex.{length-joined}
 use Rattle.store.specs.Met.{rec-cells}
-use Rattle.store.specs.HeldAt.{placeAt, rowIn, recIn, Placed}
+use Rattle.store.specs.HeldAt.{placeAt, rowIn, recIn, Reached}
 
 pub read-is : (b out l f t i : List ℕ) → l ≡ put out 0 (entry f t (header i 8)) → f ≡ headOf (rowIn b wholeAt) .destination → t ≡ headOf (rowIn b wholeAt) .source
     → i ≡ headOf (rowIn b wholeAt) .id
@@ -39,7 +39,7 @@ tail-put m e v a n q h w =
     (λ i. take a m ++ (it i ++ none i)) ∙ ap (λ (x : List ℕ). take a m ++ x) (append-nil (v ++ drop (a + length v) m)) ∙ sym (append-assoc (take a m) v (drop (a + length v) m))
 
 -- the row is written, then the pieces behind it
-module _ (b : List ℕ) (p : Placed b wholeAt) where
+module _ (b : List ℕ) (p : Reached b wholeAt) where
   row-long : length (rowIn b wholeAt) ≡ recBytes
   row-long = length-part b (recOff (placeAt b wholeAt)) recBytes (omega (arith, p .some, p .small, p .long))
 

@@ -19,7 +19,7 @@ use Rattle.laws.specs.Fine.{Fine, fits-fine, fine-complete}
 use Rattle.laws.specs.SoundValid.{sound-valid}
 use Rattle.links.specs.Links.{Links}
 use Rattle.links.specs.InRange.{links}
-use Rattle.store.specs.HeldAt.{placeAt, rowIn, recIn, Placed, Receives}
+use Rattle.store.specs.HeldAt.{placeAt, rowIn, recIn, Reached, Receives}
 
 -- a sound store to receive, with a whole record
 pub record Oldest (b : List ℕ) : Type 0 where
@@ -46,8 +46,8 @@ module _ (b : List ℕ) (y : Bytes b) (h : Oldest b) where
   in-range : Links b
   in-range = links roleReceive b y (h .sound)
 
-  pub oldest-placed : Placed b wholeAt
-  oldest-placed = record { some = h .some; small = in-range .whole .small; inside = omega arith; long = omega (arith, in-range .long) }
+  pub oldest-placed : Reached b wholeAt
+  oldest-placed = record { some = h .some; small = in-range .whole .small; inside = omega (arith, in-range .long); long = omega (arith, in-range .long) }
 
   valid : Valid roleReceive (decode b)
   valid = sound-valid roleReceive b y (h .sound) .0

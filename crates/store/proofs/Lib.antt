@@ -3,3 +3,4 @@ pub mod Opens
 pub mod Clears
 pub mod Releases
 pub mod Fields
+pub mod Finishes

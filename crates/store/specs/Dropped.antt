@@ -1,9 +1,9 @@
 -- Dropping a held record and taking the oldest whole one, from bytes to stores. Assumes nothing.
-use Prim.Native.Nat.{ℕ, suc, _+_, _-_, _≤_, _<_}
+use Prim.Native.Nat.{ℕ, _+_, _-_, _≤_, _<_}
 use native.Mathlib.Omega.{arith}
 use native.Mathlib.Nat.{zero-add}
 use mathlib.Core.Path.{_≡_, refl, sym, ap, _∙_, subst}
-use mathlib.Core.List.{List, [], _∷_, _++_, map, append-assoc}
+use mathlib.Core.List.{List, [], _∷_, _++_, map}
 use mathlib.Core.Option.{Option, some}
 use lib.ListN.{length, getD}
 use Rattle.octets.specs.Octets.{put, Bytes}
@@ -19,15 +19,13 @@ use Rattle.machine.specs.Sound.{piecePlaces, RecSized, sound, Valid}
 use Rattle.machine.specs.Receive.{recKey, found, dropped, dropAt, dropStep, takeFrom, takeStep}
 use Rattle.laws.specs.Counting.{Few, self, one-inside}
 use Rattle.laws.specs.Rows.{Held, held-right}
-use Rattle.laws.specs.Chains.{Linked, rowsTo, walk-chain, chain-append}
+use Rattle.laws.specs.Chains.{Linked, rowsTo, chain-append}
 use Rattle.laws.specs.FreeRow.{free-length}
-use Rattle.laws.specs.RecRow.{rec-link, rec-first}
 use Rattle.laws.specs.Keys.{key-eq, key-refl}
 use Rattle.laws.specs.StoreRows.{held-held, held-whole}
 use Rattle.laws.specs.Write.{write-row, rec-leaves-cells, head-leaves-cells}
 use Rattle.laws.specs.Rep.{Rep, rep-encode}
 use Rattle.laws.specs.Walks.{Walks, recs-once, cells-once, head-byte, pieces-walk}
-use Rattle.laws.specs.SoundValid.{sound-valid}
 use Rattle.links.specs.Split.{Split, found-split}
 use Rattle.links.specs.Unheld
 use Rattle.links.specs.Unheld.{ledTo, linkBehind}
@@ -38,15 +36,17 @@ use Rattle.links.specs.Take.{take-rep}
 use Rattle.steps.specs.Find.{find-key, all-found}
 use Rattle.steps.specs.Drop.{drop-valid}
 use Rattle.steps.specs.Take.{take-valid}
-use Rattle.links.specs.Byte.{first-byte}
-use Rattle.links.specs.InRange.{sound-rep}
 use Rattle.store.specs.Seek.{seek}
 use Rattle.store.specs.InChains.{held-found}
+use Rattle.store.specs.HeldAt.{recIn, keyIn, HeldAt}
+use Rattle.store.specs.Met.{valid, rep, held-here, here-links, here-link}
+use Rattle.store.specs.Around.{next-is, first-is}
+use Rattle.store.specs.HeldPieces.{pieces-linked, pieces-once, pieces-chain}
 use Rattle.store.specs.Clearing.{clearFrom}
 use Rattle.store.specs.Cleared.{linked-same, clear-freed}
-use Rattle.store.specs.Releasing.{recFree, released, unlinked}
+use Rattle.store.specs.Releasing.{recFree, released, unlinked, Droppable}
 use Rattle.store.specs.Released.{free-kept}
-use Rattle.store.specs.Dropping.{Drops, Takable}
+use Rattle.store.specs.Dropping.{Takable}
 
 -- ---- release
 
@@ -78,28 +78,13 @@ release-is s b u r h =
     refl
     (ap (λ (l : List ℕ). getD l freeCellsAt 0) (sym e) ∙ free-kept p u (h .place .0) (h .place .1) (omega (arith, h .size)) ∙ h .freeCells)
 
--- ---- what is read of the record
-
--- the pieces of a record are linked
-pieces-linked : (b : List ℕ) (C : ℕ) (r : Rec) → C ≤ mostCells → Walks b r → Few C (map cellPlace (r .cells)) → Linked (link (cellAt b)) (map cellPlace (r .cells))
-pieces-linked b C r m e u =
-    subst (Linked (link (cellAt b))) e
-    (walk-chain (link (cellAt b)) C (suc mostCells) (first (map cellPlace (r .cells))) (omega arith) (subst (Few C) (sym e) u) .links)
-
--- links of the row of the record at p
+-- the row of the record is in the bytes
 module _ (b : List ℕ) (kind next : ℕ) (r : Rec) (z : RecSized r) (e : recAt b (r .place) ≡ recRow kind next r) where
-  next-is : getD b (recOff (r .place)) 0 ≡ next
-  next-is =
-      first-byte b (recOff (r .place)) recBytes (omega arith) ∙ ap (λ (l : List ℕ). getD l 0 0) e ∙ rec-link kind next r z
-
-  first-is : getD b (recOff (r .place) + firstCellAt) 0 ≡ first (map cellPlace (r .cells))
-  first-is = sym (getD-part b (recOff (r .place)) recBytes firstCellAt (omega arith)) ∙ ap (λ (l : List ℕ). getD l firstCellAt 0) e ∙ rec-first kind next r z
-
   -- unlinking is a release, once the link to the record leads to the next
   unlink-is : (s : Store) (at o : ℕ) → at ≡ o → getD b at 0 ≡ r .place → Out s b (put b o (next ∷ [])) r → unlinked at b ≡ releaseBytes s (put b o (next ∷ [])) r
   unlink-is s at o f g out =
       (λ i. released (g i) (getD b (recOff (g i) + firstCellAt) 0) (put b (f i) (getD b (recOff (g i)) 0 ∷ [])))
-      ∙ (λ i. released (r .place) (first-is i) (put b o (next-is i ∷ [])))
+      ∙ (λ i. released (r .place) (first-is b kind next r z e i) (put b o (next-is b kind next r z e i ∷ [])))
       ∙ release-is s b (put b o (next ∷ [])) r out
 
 -- ---- drop
@@ -125,15 +110,6 @@ module _ (role : ℕ) (s : Store) (v : Valid role s) (b : List ℕ) (rep : Rep s
       held-right (recAt b) (rowsTo recPlace (recRow kind) (r .place) l) (chainRows recPlace (recRow kind) (r ∷ m))
       (subst (Held (recAt b)) (ap (chainRows recPlace (recRow kind)) (q .is) ∙ chain-append recPlace (recRow kind) l (r ∷ m)) (held-held s (recAt b) (rep .recs))) .0
 
-  once-held : Few (s .setup .cells) (map cellPlace (r .cells))
-  once-held n =
-      omega (
-        arith,
-        cells-once role s v n,
-        ap (λ (x : List Rec). occurs n (piecePlaces (x ++ s .whole))) (q .is) ∙ ap (λ (x : List Rec). occurs n (piecePlaces x)) (append-assoc l (r ∷ m) (s .whole))
-            ∙ pieces-around l r (m ++ s .whole) n,
-      )
-
   head-kept : (j : ℕ) → j < headBytes → getD u j 0 ≡ getD (put (headRow s) heldAt (first (map recPlace (l ++ m)) ∷ [])) j 0
   head-kept j h =
       ap (λ (x : ℕ). getD u x 0) (sym (zero-add j)) ∙ sym (getD-part u 0 headBytes j h)
@@ -148,9 +124,8 @@ module _ (role : ℕ) (s : Store) (v : Valid role s) (b : List ℕ) (rep : Rep s
     free = head-kept freeAt (omega arith);
     freeCells = head-kept freeCellsAt (omega arith);
     place = Unheld.within role s v b rep l r m (q .is);
-    once = once-held;
-    linked = pieces-linked b (s .setup .cells) r (v .most)
-        (all-found sameKey recKey (Walks b) k r (s .held) e (all-left (Walks b) (s .held) (s .whole) (pieces-walk role s v b rep))) once-held;
+    once = pieces-once role s v k r e;
+    linked = pieces-chain role s v k r e b rep;
   }
 
   store-dropped : releaseStore s r (l ++ m) (s .whole) ≡ dropStep k s
@@ -160,7 +135,7 @@ module _ (role : ℕ) (s : Store) (v : Valid role s) (b : List ℕ) (rep : Rep s
       ∙ (λ i. releaseStore s r (dropped (find-key sameKey recKey key-eq key-refl k r (s .held) e i) (s .held)) (s .whole))
       ∙ sym (ap (λ (o : Option Rec). dropAt o s) e)
 
-  pub dropped-encode : unlinked (seek k b heldAt) b ≡ encode (dropStep k s)
+  dropped-encode : unlinked (seek k b heldAt) b ≡ encode (dropStep k s)
   dropped-encode =
       let z = held-found role s v b rep k r e q in
       unlink-is b kind (first (map recPlace m)) r (all-found sameKey recKey RecSized k r (s .held) e (all-left RecSized (s .held) (s .whole) (v .sized))) row-held
@@ -211,19 +186,25 @@ module _ (s : Store) (v : Valid roleReceive s) (b : List ℕ) (rep : Rep s b) (r
 
 -- ---- sound bytes
 
-pub unlinked-drops : (at : ℕ) (b : List ℕ) → Bytes b → Drops at b (unlinked at b)
-unlinked-drops at b y role k r t e f =
-    ap (λ (o : ℕ). unlinked o b) f ∙ dropped-encode role (decode b) (sound-valid role b y t .0) b (sound-rep role b y t) k r e
+-- a held record can be dropped
+module _ (role : ℕ) (b : List ℕ) (y : Bytes b) (at : ℕ) (h : HeldAt role b at) where
+  pub here-droppable : Droppable at b
+  here-droppable = record { links = here-links role b y at h; link = here-link role b y at h; some = h .some }
+
+  pub unlinked-drops : unlinked at b ≡ encode (dropStep (keyIn b at) (decode b))
+  unlinked-drops =
+      ap (λ (o : ℕ). unlinked o b) (h .is)
+      ∙ dropped-encode role (decode b) (valid role b y (h .sound)) b (rep role b y (h .sound)) (keyIn b at) (recIn b at) (held-here role b y at h)
 
 pub unlinked-takes : (b : List ℕ) → Bytes b → Takable b → unlinked wholeAt b ≡ encode (takeStep (decode b))
 unlinked-takes b y h = go (decode b .whole) refl
   where
     v : Valid roleReceive (decode b)
-    v = sound-valid roleReceive b y (h .sound) .0
+    v = valid roleReceive b y (h .sound)
 
-    rep : Rep (decode b) b
-    rep = sound-rep roleReceive b y (h .sound)
+    w : Rep (decode b) b
+    w = rep roleReceive b y (h .sound)
 
-    go : (w : List Rec) → decode b .whole ≡ w → unlinked wholeAt b ≡ encode (takeStep (decode b))
-    go [] e = absurd (omega (arith, h .linked .some, head-byte roleReceive (decode b) v b rep wholeAt (omega arith), ap (λ (x : List Rec). first (map recPlace x)) e))
-    go (r ∷ l) e = taken-encode (decode b) v b rep r l e
+    go : (l : List Rec) → decode b .whole ≡ l → unlinked wholeAt b ≡ encode (takeStep (decode b))
+    go [] e = absurd (omega (arith, h .linked .some, head-byte roleReceive (decode b) v b w wholeAt (omega arith), ap (λ (x : List Rec). first (map recPlace x)) e))
+    go (r ∷ l) e = taken-encode (decode b) v b w r l e

@@ -31,7 +31,6 @@ use Rattle.store.specs.Seek.{seek}
 use Rattle.store.specs.Sought.{seek-link}
 use Rattle.store.specs.InChains.{held-leads, whole-leads, held-found, held-none, whole-found, whole-none}
 use Rattle.store.specs.Opening.{Openable}
-use Rattle.store.specs.Releasing.{Droppable}
 use Rattle.store.specs.Dropping.{Takable}
 
 pub openable : (b : List ℕ) → Links b → 0 < getD b freeAt 0 → Openable b
@@ -86,10 +85,6 @@ module _ (role : ℕ) (b : List ℕ) (y : Bytes b) (t : sound role b ≡ true) w
 
   pub whole-inside : (k : Key) → seek k b wholeAt < length b
   whole-inside k = let l = links role b y t in omega (arith, l .long, seek-link k b (suc recCount) wholeAt l (l .whole) .inside)
-
-  -- a held record that is found can be dropped
-  pub droppable : (k : Key) → 0 < getD b (seek k b heldAt) 0 → Droppable (seek k b heldAt) b
-  droppable k g = let h = links role b y t in record { links = h; link = seek-link k b (suc recCount) heldAt h (h .held); some = g }
 
   -- whether there is a free record, and a free cell
   pub free-is : ltb 0 (getD b freeAt 0) ≡ ltb 0 (length (decode b .free))

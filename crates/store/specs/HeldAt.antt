@@ -49,9 +49,9 @@ pub record HeldAt (role : ℕ) (b : List ℕ) (at : ℕ) : Type 0 where
   pub some : 0 < placeAt b at
   pub is : at ≡ seek (keyIn b at) b heldAt
 
--- the link at byte `at` leads to a record; b has room for all records
-pub record Placed (b : List ℕ) (at : ℕ) : Type 0 where
+-- in bytes b, the link at byte `at` leads to a place of a record
+pub record Reached (b : List ℕ) (at : ℕ) : Type 0 where
+  pub inside : at < length b
   pub some : 0 < placeAt b at
   pub small : placeAt b at ≤ recCount
-  pub inside : at < storeBytes 0
   pub long : storeBytes 0 ≤ length b

@@ -4,10 +4,17 @@ pub mod InChains
 pub mod Refuse
 pub mod HeldAt
 pub mod Met
+pub mod Around
+pub mod HeldPieces
+pub mod Restating
+pub mod Restated
+pub mod Finishing
+pub mod Finished
 pub mod Opening
 pub mod Opened
 pub mod Clearing
 pub mod Cleared
+pub mod Restarted
 pub mod Releasing
 pub mod Released
 pub mod Dropping

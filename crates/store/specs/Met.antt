@@ -2,20 +2,19 @@
 use Prim.Native.Nat.{ℕ, suc, _+_, _≤_, _<_}
 use native.Mathlib.Omega.{arith}
 use mathlib.Core.Path.{_≡_, refl, sym, ap, _∙_, subst}
-use mathlib.Core.Bool.{Bool, true, cond}
+use mathlib.Core.Bool.{true}
 use mathlib.Core.List.{List, [], _∷_, _++_, map}
 use mathlib.Core.Option.{Option, none, some}
 use lib.ListN.{getD}
-use lib.Dec.{eqb}
 use borrow.Author.Tests.{eq-eqb, ne-eqb}
-use Rattle.octets.specs.Octets.{part, Bytes}
-use Rattle.octets.specs.Lists.{All, all-left}
+use Rattle.octets.specs.Octets.{Bytes}
+use Rattle.octets.specs.Lists.{All}
 use Rattle.octets.specs.Parts.{part-part}
 use Rattle.machine.specs.Limits.{recCount, recBytes}
 use Rattle.machine.specs.Codes.{heldKind}
-use Rattle.machine.specs.Values.{Rec, Store, Key, sameKey}
+use Rattle.machine.specs.Values.{Rec, Key, sameKey}
 use Rattle.machine.specs.Chains.{first}
-use Rattle.machine.specs.Layout.{heldAt, wholeAt, idAt, idWidth, recOff, recPlace, recRow, recAt, slotsAt, firstCellAt, headOf, sendingOf, recOf, recChain, readCells, readRec, decode}
+use Rattle.machine.specs.Layout.{heldAt, idAt, idWidth, recOff, recPlace, recRow, recAt, slotsAt, firstCellAt, headOf, sendingOf, recOf, recChain, readCells, readRec, decode}
 use Rattle.machine.specs.Sound.{sound, RecSized, Valid}
 use Rattle.machine.specs.Receive.{recKey, found}
 use Rattle.laws.specs.Keys.{key-eq, key-refl}
@@ -23,15 +22,18 @@ use Rattle.laws.specs.Rep.{Rep}
 use Rattle.laws.specs.Fine.{Fine}
 use Rattle.laws.specs.SoundValid.{sound-valid}
 use Rattle.links.specs.InRange.{sound-rep, links}
+use Rattle.links.specs.Links.{RecLink, Links}
 use Rattle.links.specs.Split.{Split, found-split}
 use Rattle.links.specs.Swap.{row-is}
 use Rattle.links.specs.Unheld
 use Rattle.steps.specs.Find.{all-found, find-key}
 use Rattle.steps.specs.Held.{held-fine, held-sized}
+use Rattle.steps.specs.Keys.{distinct-unique}
+use Rattle.steps.specs.Unique.{unique-apart}
 use Rattle.store.specs.Seek.{idIn, seek}
 use Rattle.store.specs.Sought.{seek-link}
-use Rattle.store.specs.InChains.{held-found, held-none, whole-found, whole-none}
-use Rattle.store.specs.HeldAt.{metAt, placeAt, rowIn, recIn, keyIn, HeldAt, Placed}
+use Rattle.store.specs.InChains.{held-found, held-none}
+use Rattle.store.specs.HeldAt.{metAt, placeAt, rowIn, recIn, keyIn, HeldAt, Reached}
 
 -- a record that is read has the key in its row
 pub read-key : (b : List ℕ) (p : ℕ) → recKey (readRec b p) ≡ idIn b p
@@ -122,11 +124,21 @@ module _ (role : ℕ) (b : List ℕ) (y : Bytes b) (at : ℕ) (h : HeldAt role b
   unfolding recOf
   here-row = row-is role (decode b) (valid role b y (h .sound)) b (rep role b y (h .sound)) (here-split .before) r (here-split .behind) (here-split .is)
 
-  pub here-placed : Placed b at
-  here-placed =
-      let l = links role b y (h .sound) in
-      let k = seek-link (keyIn b at) b (suc recCount) heldAt l (l .held) in
-      record { some = h .some; small = here-within .1; inside = omega (arith, k .inside, h .is); long = omega (arith, l .long) }
+  -- ids are unique: no whole record has its key
+  pub here-not-whole : found (keyIn b at) (decode b .whole) ≡ none
+  here-not-whole =
+      unique-apart sameKey recKey key-eq key-refl (keyIn b at) r (decode b .held) (decode b .whole)
+      (distinct-unique (decode b .held ++ decode b .whole) (valid role b y (h .sound) .ids)) held-here
+
+  -- links are in range, and so is the one to it
+  pub here-links : Links b
+  here-links = links role b y (h .sound)
+
+  pub here-link : RecLink b at
+  here-link = subst (RecLink b) (sym (h .is)) (seek-link (keyIn b at) b (suc recCount) heldAt here-links (here-links .held))
+
+  pub here-reached : Reached b at
+  here-reached = record { inside = omega (arith, here-link .inside, here-links .long); some = h .some; small = here-link .small; long = omega (arith, here-links .long) }
 
 -- ---- its fields
 

@@ -2,15 +2,16 @@
 use Prim.Native.Nat.{ℕ, suc, _+_, _-_, _≤_, _<_}
 use mathlib.Core.Path.{_≡_}
 use mathlib.Core.Bool.{Bool, true}
-use mathlib.Core.List.{List, [], _∷_, _++_}
+use mathlib.Core.List.{List, [], _∷_, _++_, map}
 use mathlib.Core.Option.{none}
 use lib.ListN.{length, getD, replicate}
 use Rattle.octets.specs.Octets.{put, be}
 use Rattle.octets.specs.Bools.{one}
 use Rattle.machine.specs.Limits.{longest, largestTopic, recCount, storeBytes, slotsOf}
-use Rattle.machine.specs.Codes.{roleReceive, kindArriving}
-use Rattle.machine.specs.Values.{Head, keyOf}
-use Rattle.machine.specs.Layout.{freeAt, heldAt, idWidth, addressWidth, numberWidth, recOff, decode}
+use Rattle.machine.specs.Codes.{roleReceive, stateInit}
+use Rattle.machine.specs.Values.{Head, Cell, Rec, keyOf}
+use Rattle.machine.specs.Chains.{first}
+use Rattle.machine.specs.Layout.{freeAt, heldAt, idWidth, addressWidth, numberWidth, recOff, cellPlace, recRow, decode}
 use Rattle.machine.specs.Sound.{sound}
 use Rattle.machine.specs.Receive.{found}
 
@@ -30,7 +31,7 @@ opened b =
 abbrev pub newHead : List ℕ → List ℕ → List ℕ → Bool → ℕ → List ℕ → Head
 newHead id source destination reply total topic = record { id = id; source = source; destination = destination; reply = one reply; total = total; topic = topic }
 
--- fields of an arriving record that have their widths
+-- fields of a new record that have their widths
 pub record FieldsFit (h : Head) : Type 0 where
   pub id : length (h .id) ≡ idWidth
   pub source : length (h .source) ≡ addressWidth
@@ -38,12 +39,36 @@ pub record FieldsFit (h : Head) : Type 0 where
   pub total : h .total ≤ longest
   pub topic : length (h .topic) ≤ largestTopic
 
--- the row of a record that arrives, in two parts: from its kind to its destination, and what follows
-abbrev pub frontOf : Head → List ℕ
-frontOf h = (kindArriving ∷ h .reply ∷ 0 ∷ 0 ∷ 0 ∷ length (h .topic) ∷ slotsOf (h .total) ∷ []) ++ h .id ++ h .source ++ h .destination
+-- a new record at the place p; what arrives has neither created nor end, nor pieces yet
+abbrev pub newRec : ℕ → Head → ℕ → ℕ → List Cell → Rec
+newRec p h created end cells = record {
+  place = p;
+  head = h;
+  slots = slotsOf (h .total);
+  sending = record { state = stateInit; timedOut = 0; created = created; end = end };
+  cells = cells;
+}
 
-abbrev pub restOf : ℕ → List ℕ → List ℕ
-restOf total topic = be numberWidth total ++ replicate (numberWidth + numberWidth) 0 ++ topic ++ replicate (suc largestTopic - length topic) 0
+-- its row behind the link, in two parts: from its kind to its destination, and what follows; its first cell is at the place `cell`
+abbrev pub frontOf : ℕ → ℕ → Head → List ℕ
+frontOf kind cell h = (kind ∷ h .reply ∷ stateInit ∷ 0 ∷ cell ∷ length (h .topic) ∷ slotsOf (h .total) ∷ []) ++ h .id ++ h .source ++ h .destination
+
+abbrev pub restOf : ℕ → ℕ → ℕ → List ℕ → List ℕ
+restOf total created end topic = be numberWidth total ++ be numberWidth created ++ be numberWidth end ++ topic ++ replicate (suc largestTopic - length topic) 0
+
+abbrev pub newRow : ℕ → ℕ → Head → ℕ → ℕ → List ℕ
+newRow kind cell h created end = frontOf kind cell h ++ restOf (h .total) created end (h .topic)
+
+-- b with the record r, of a kind, in the first free place, as the first held
+abbrev pub openedWith : ℕ → Rec → List ℕ → List ℕ
+openedWith kind r b =
+    put (put b (recOff (getD b freeAt 0)) (recRow kind (getD b heldAt 0) r))
+    freeAt (getD b (recOff (getD b freeAt 0)) 0 ∷ getD b freeAt 0 ∷ [])
+
+-- b′ is b with a new record, whatever its pieces are: they start at the place `cell`
+abbrev pub Opens : ℕ → ℕ → Head → ℕ → ℕ → List ℕ → List ℕ → Type 0
+Opens kind cell h created end b b′ =
+    (cells : List Cell) → first (map cellPlace cells) ≡ cell → b′ ≡ openedWith kind (newRec (getD b freeAt 0) h created end cells) b
 
 -- a sound receive store with a free record, and a head whose id it does not hold
 pub record Ready (b : List ℕ) (h : Head) : Type 0 where

@@ -6,47 +6,39 @@ use rows::record::Record;
 ghost use mathlib.Core.Path.{_≡_};
 ghost use Prim.Native.Nat.{_+_, _<_, _≤_};
 ghost use Rattle.octets.specs.Octets.{part};
-ghost use lib.ListN.{length, getD};
+ghost use lib.ListN.{getD};
 ghost use Rattle.machine.specs.Limits.{recBytes};
-ghost use Rattle.machine.specs.Layout.{numberWidth, firstCellAt, slotsAt, recOff, numAt, headOf, sendingOf};
-ghost use Rattle.store.specs.HeldAt.{placeAt, rowIn, Placed};
-
-// Where the record's row starts.
-fn row(store: &[u8], at: usize) -> usize
-    requires { ⌜ Placed (now store) at ⌝ }
-    ensures { λ r. ⌜ (r ≡ recOff (placeAt (now (store .entry)) at)) × (r + recBytes ≤ length (now (store .entry))) ⌝ }
-{
-    place::rec_off(store[at])
-}
+ghost use Rattle.machine.specs.Layout.{numberWidth, firstCellAt, slotsAt, numAt, headOf, sendingOf};
+ghost use Rattle.store.specs.HeldAt.{rowIn, Reached};
 
 // The byte at o of the record's row.
 fn byte(store: &[u8], at: usize, o: usize) -> u8
-    requires { ⌜ Placed (now store) at × (o < recBytes) ⌝ }
+    requires { ⌜ Reached (now store) at × (o < recBytes) ⌝ }
     ensures { λ r. ⌜ r ≡ getD (rowIn (now (store .entry)) at) o 0 ⌝ }
 {
-    store[row(store, at) + o]
+    store[place::row_at(store, at) + o]
 }
 
 // The number at o of the record's row.
 fn number(store: &[u8], at: usize, o: usize) -> u64
-    requires { ⌜ Placed (now store) at × (o + numberWidth ≤ recBytes) ⌝ }
+    requires { ⌜ Reached (now store) at × (o + numberWidth ≤ recBytes) ⌝ }
     ensures { λ r. ⌜ r ≡ numAt numberWidth (rowIn (now (store .entry)) at) o ⌝ }
 {
-    octets::get64(store, row(store, at) + o)
+    octets::get64(store, place::row_at(store, at) + o)
 }
 
 // The n bytes at o of the record's row, as that part of the store.
 fn bytes(store: &[u8], at: usize, o: usize, n: usize) -> &[u8]
-    requires { ⌜ Placed (now store) at × (o + n ≤ recBytes) ⌝ }
+    requires { ⌜ Reached (now store) at × (o + n ≤ recBytes) ⌝ }
     ensures { λ r. ⌜ now r ≡ part (rowIn (now (store .entry)) at) o n ⌝ }
 {
-    let a = row(store, at) + o;
+    let a = place::row_at(store, at) + o;
     &store[a..a + n]
 }
 
 // The message's length.
 pub fn total(store: &[u8], at: usize) -> u64
-    requires { ⌜ Placed (now store) at ⌝ }
+    requires { ⌜ Reached (now store) at ⌝ }
     ensures { λ r. ⌜ r ≡ headOf (rowIn (now (store .entry)) at) .total ⌝ }
 {
     number(store, at, Record::LENGTH)
@@ -54,7 +46,7 @@ pub fn total(store: &[u8], at: usize) -> u64
 
 // The number of slots.
 pub fn slots(store: &[u8], at: usize) -> u64
-    requires { ⌜ Placed (now store) at ⌝ }
+    requires { ⌜ Reached (now store) at ⌝ }
     ensures { λ r. ⌜ (r ≡ getD (rowIn (now (store .entry)) at) slotsAt 0) × (r < 256) ⌝ }
 {
     octets::wide(byte(store, at, Record::SLOTS))
@@ -62,7 +54,7 @@ pub fn slots(store: &[u8], at: usize) -> u64
 
 // Whether it is a reply.
 pub fn reply(store: &[u8], at: usize) -> u8
-    requires { ⌜ Placed (now store) at ⌝ }
+    requires { ⌜ Reached (now store) at ⌝ }
     ensures { λ r. ⌜ r ≡ headOf (rowIn (now (store .entry)) at) .reply ⌝ }
 {
     byte(store, at, Record::REPLY)
@@ -70,7 +62,7 @@ pub fn reply(store: &[u8], at: usize) -> u8
 
 // The sender's state.
 pub fn state(store: &[u8], at: usize) -> u8
-    requires { ⌜ Placed (now store) at ⌝ }
+    requires { ⌜ Reached (now store) at ⌝ }
     ensures { λ r. ⌜ r ≡ sendingOf (rowIn (now (store .entry)) at) .state ⌝ }
 {
     byte(store, at, Record::STATE)
@@ -78,7 +70,7 @@ pub fn state(store: &[u8], at: usize) -> u8
 
 // The timed-out mark.
 pub fn timed_out(store: &[u8], at: usize) -> u8
-    requires { ⌜ Placed (now store) at ⌝ }
+    requires { ⌜ Reached (now store) at ⌝ }
     ensures { λ r. ⌜ r ≡ sendingOf (rowIn (now (store .entry)) at) .timedOut ⌝ }
 {
     byte(store, at, Record::TIMED_OUT)
@@ -86,7 +78,7 @@ pub fn timed_out(store: &[u8], at: usize) -> u8
 
 // When it was created, in milliseconds.
 pub fn created(store: &[u8], at: usize) -> u64
-    requires { ⌜ Placed (now store) at ⌝ }
+    requires { ⌜ Reached (now store) at ⌝ }
     ensures { λ r. ⌜ r ≡ sendingOf (rowIn (now (store .entry)) at) .created ⌝ }
 {
     number(store, at, Record::CREATED)
@@ -94,7 +86,7 @@ pub fn created(store: &[u8], at: usize) -> u64
 
 // When its time is over, in milliseconds.
 pub fn end(store: &[u8], at: usize) -> u64
-    requires { ⌜ Placed (now store) at ⌝ }
+    requires { ⌜ Reached (now store) at ⌝ }
     ensures { λ r. ⌜ r ≡ sendingOf (rowIn (now (store .entry)) at) .end ⌝ }
 {
     number(store, at, Record::END)
@@ -102,7 +94,7 @@ pub fn end(store: &[u8], at: usize) -> u64
 
 // The id, as that part of the store.
 pub fn id(store: &[u8], at: usize) -> &[u8]
-    requires { ⌜ Placed (now store) at ⌝ }
+    requires { ⌜ Reached (now store) at ⌝ }
     ensures { λ r. ⌜ now r ≡ headOf (rowIn (now (store .entry)) at) .id ⌝ }
 {
     bytes(store, at, Record::ID, place::ID_SIZE)
@@ -110,7 +102,7 @@ pub fn id(store: &[u8], at: usize) -> &[u8]
 
 // The source's address, as that part of the store.
 pub fn source(store: &[u8], at: usize) -> &[u8]
-    requires { ⌜ Placed (now store) at ⌝ }
+    requires { ⌜ Reached (now store) at ⌝ }
     ensures { λ r. ⌜ now r ≡ headOf (rowIn (now (store .entry)) at) .source ⌝ }
 {
     bytes(store, at, Record::SOURCE, place::ADDRESS_SIZE)
@@ -118,7 +110,7 @@ pub fn source(store: &[u8], at: usize) -> &[u8]
 
 // The destination's address, as that part of the store.
 pub fn destination(store: &[u8], at: usize) -> &[u8]
-    requires { ⌜ Placed (now store) at ⌝ }
+    requires { ⌜ Reached (now store) at ⌝ }
     ensures { λ r. ⌜ now r ≡ headOf (rowIn (now (store .entry)) at) .destination ⌝ }
 {
     bytes(store, at, Record::DESTINATION, place::ADDRESS_SIZE)
@@ -126,16 +118,16 @@ pub fn destination(store: &[u8], at: usize) -> &[u8]
 
 // The whole row, as that part of the store.
 pub fn whole_row(store: &[u8], at: usize) -> &[u8]
-    requires { ⌜ Placed (now store) at ⌝ }
+    requires { ⌜ Reached (now store) at ⌝ }
     ensures { λ r. ⌜ now r ≡ rowIn (now (store .entry)) at ⌝ }
 {
-    let a = row(store, at);
+    let a = place::row_at(store, at);
     &store[a..a + record::BYTES]
 }
 
 // The place of its first piece, 0 for none.
 pub fn first_cell(store: &[u8], at: usize) -> usize
-    requires { ⌜ Placed (now store) at ⌝ }
+    requires { ⌜ Reached (now store) at ⌝ }
     ensures { λ r. ⌜ r ≡ getD (rowIn (now (store .entry)) at) firstCellAt 0 ⌝ }
 {
     octets::small(byte(store, at, Record::FIRST_CELL))

@@ -1,9 +1,12 @@
-// The store's operations in place: a record is found, opened, dropped or taken, and chains of cells are freed. They are internal: each requires what the
-// calls above it have established, that links are in range and that the record they work on is there.
+// The store's operations in place: a record is found, opened, restarted, given a state, finished, dropped or taken, and chains of cells are freed. They
+// are internal: each requires what the calls above it have established, that links are in range and that the record they work on is there.
 
 pub mod clear;
 pub mod field;
 pub mod find;
+pub mod finish;
 pub mod open;
 pub mod place;
 pub mod release;
+pub mod restart;
+pub mod restate;

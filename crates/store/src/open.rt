@@ -11,9 +11,10 @@ ghost use lib.ListN.{length};
 ghost use Rattle.octets.specs.Octets.{put};
 ghost use Rattle.octets.specs.Bools.{one};
 ghost use Rattle.machine.specs.Limits.{longest, largestTopic, recBytes, slotsOf};
+ghost use Rattle.machine.specs.Codes.{kindLeaving};
 ghost use Rattle.machine.specs.Layout.{totalAt, encode, decode};
 ghost use Rattle.machine.specs.Receive.{initAt};
-ghost use Rattle.store.specs.Opening.{Openable, opened, newHead, FieldsFit, frontOf, restOf, Ready};
+ghost use Rattle.store.specs.Opening.{Openable, opened, newHead, FieldsFit, frontOf, restOf, newRow, Opens, Ready};
 
 // A message is cut by 1,300 bytes.
 const CUT_BY: u64 = rows::message::CUT;
@@ -46,10 +47,12 @@ fn slots(total: u64) -> u8
     ((total + (CUT_BY - 1)) / CUT_BY) as u8
 }
 
-// The start of a record that arrives, from its kind to its destination.
+// The start of a new record, from its kind to its destination; cell is the place of its first cell.
 fn put_front(
     store: &mut [u8],
     row: usize,
+    kind: u8,
+    cell: u8,
     id: &[u8],
     source: &[u8],
     destination: &[u8],
@@ -58,14 +61,14 @@ fn put_front(
     topic: &[u8],
 )
     requires { ⌜ FieldsFit (newHead (now id) (now source) (now destination) reply total (now topic)) × (row + recBytes ≤ length (now store)) ⌝ }
-    ensures { λ _. ⌜ now (store .exit) ≡ put (now (store .entry)) (row + 1) (frontOf (newHead (now (id .entry)) (now (source .entry)) (now (destination .entry)) reply total (now (topic .entry)))) ⌝ }
+    ensures { λ _. ⌜ now (store .exit) ≡ put (now (store .entry)) (row + 1) (frontOf kind cell (newHead (now (id .entry)) (now (source .entry)) (now (destination .entry)) reply total (now (topic .entry)))) ⌝ }
 {
     let front = [
-        place::ARRIVING,
+        kind,
         mark(reply),
         0,
         0,
-        0,
+        cell,
         topic.len() as u8,
         slots(total),
     ];
@@ -75,19 +78,15 @@ fn put_front(
     octets::copy_in(store, row + Record::DESTINATION, destination);
 }
 
-// What follows, from its length on: what only a sender keeps is zero, and so is what follows the topic.
-fn put_rest(store: &mut [u8], row: usize, total: u64, topic: &[u8])
+// What follows, from its length on; what follows the topic is zero.
+fn put_rest(store: &mut [u8], row: usize, total: u64, created: u64, end: u64, topic: &[u8])
     requires { ⌜ (length (now topic) ≤ largestTopic) × (row + recBytes ≤ length (now store)) ⌝ }
-    ensures { λ _. ⌜ now (store .exit) ≡ put (now (store .entry)) (row + totalAt) (restOf total (now (topic .entry))) ⌝ }
+    ensures { λ _. ⌜ now (store .exit) ≡ put (now (store .entry)) (row + totalAt) (restOf total created end (now (topic .entry))) ⌝ }
 {
     let size = topic.len();
     octets::put64(store, row + Record::LENGTH, total);
-    octets::fill(
-        store,
-        row + Record::CREATED,
-        Record::TOPIC - Record::CREATED,
-        0,
-    );
+    octets::put64(store, row + Record::CREATED, created);
+    octets::put64(store, row + Record::END, end);
     octets::copy_in(store, row + Record::TOPIC, topic);
     octets::fill(
         store,
@@ -95,6 +94,74 @@ fn put_rest(store: &mut [u8], row: usize, total: u64, topic: &[u8])
         record::BYTES - Record::TOPIC - size,
         0,
     );
+}
+
+// The row of a new record, all but its link.
+pub fn put_row(
+    store: &mut [u8],
+    row: usize,
+    kind: u8,
+    cell: u8,
+    id: &[u8],
+    source: &[u8],
+    destination: &[u8],
+    reply: bool,
+    total: u64,
+    topic: &[u8],
+    created: u64,
+    end: u64,
+)
+    requires { ⌜ FieldsFit (newHead (now id) (now source) (now destination) reply total (now topic)) × (row + recBytes ≤ length (now store)) ⌝ }
+    ensures { λ _. ⌜ now (store .exit) ≡ put (now (store .entry)) (row + 1) (newRow kind cell (newHead (now (id .entry)) (now (source .entry)) (now (destination .entry)) reply total (now (topic .entry))) created end) ⌝ }
+{
+    put_front(
+        store,
+        row,
+        kind,
+        cell,
+        id,
+        source,
+        destination,
+        reply,
+        total,
+        topic,
+    );
+    put_rest(store, row, total, created, end, topic);
+}
+
+// The row is written into the first free record, which becomes the first held.
+fn open_row(
+    store: &mut [u8],
+    kind: u8,
+    cell: u8,
+    id: &[u8],
+    source: &[u8],
+    destination: &[u8],
+    reply: bool,
+    total: u64,
+    topic: &[u8],
+    created: u64,
+    end: u64,
+)
+    requires { ⌜ Openable (now store) × FieldsFit (newHead (now id) (now source) (now destination) reply total (now topic)) ⌝ }
+    ensures { λ _. ⌜ Opens kind cell (newHead (now (id .entry)) (now (source .entry)) (now (destination .entry)) reply total (now (topic .entry))) created end (now (store .entry)) (now (store .exit)) ⌝ }
+{
+    let row = place::rec_off(store[Head::FREE]);
+    put_row(
+        store,
+        row,
+        kind,
+        cell,
+        id,
+        source,
+        destination,
+        reply,
+        total,
+        topic,
+        created,
+        end,
+    );
+    hold(store);
 }
 
 // A record that arrives, without pieces, is opened.
@@ -110,8 +177,48 @@ pub fn open_arriving(
     requires { ⌜ Ready (now store) (newHead (now id) (now source) (now destination) reply total (now topic)) ⌝ }
     ensures { λ _. ⌜ now (store .exit) ≡ encode (initAt none (newHead (now (id .entry)) (now (source .entry)) (now (destination .entry)) reply total (now (topic .entry))) (decode (now (store .entry)))) ⌝ }
 {
-    let row = place::rec_off(store[Head::FREE]);
-    put_front(store, row, id, source, destination, reply, total, topic);
-    put_rest(store, row, total, topic);
-    hold(store);
+    open_row(
+        store,
+        place::ARRIVING,
+        0,
+        id,
+        source,
+        destination,
+        reply,
+        total,
+        topic,
+        0,
+        0,
+    );
+}
+
+// A record that leaves is opened; its pieces stand in the cells from the place cell on.
+pub fn open_leaving(
+    store: &mut [u8],
+    cell: u8,
+    id: &[u8],
+    source: &[u8],
+    destination: &[u8],
+    reply: bool,
+    total: u64,
+    topic: &[u8],
+    created: u64,
+    end: u64,
+)
+    requires { ⌜ Openable (now store) × FieldsFit (newHead (now id) (now source) (now destination) reply total (now topic)) ⌝ }
+    ensures { λ _. ⌜ Opens kindLeaving cell (newHead (now (id .entry)) (now (source .entry)) (now (destination .entry)) reply total (now (topic .entry))) created end (now (store .entry)) (now (store .exit)) ⌝ }
+{
+    open_row(
+        store,
+        place::LEAVING,
+        cell,
+        id,
+        source,
+        destination,
+        reply,
+        total,
+        topic,
+        created,
+        end,
+    );
 }

@@ -1,12 +1,18 @@
 // Where the rows of records and cells stand.
 
 ghost use mathlib.Core.Path.{_≡_};
-ghost use Prim.Native.Nat.{_<_, _≤_};
-ghost use Rattle.machine.specs.Limits.{recCount, mostCells};
+ghost use Prim.Native.Nat.{_+_, _<_, _≤_};
+ghost use lib.ListN.{length};
+ghost use Rattle.machine.specs.Limits.{recCount, recBytes, mostCells};
 ghost use Rattle.machine.specs.Layout.{recOff, cellOff};
+ghost use Rattle.store.specs.HeldAt.{placeAt, Reached};
 
-// The kind of a record that arrives, and the bytes of an id and of an address.
+// The kinds of a record that is not free, and the bytes of an id and of an address.
 pub const ARRIVING: u8 = rows::record::ARRIVING as u8;
+
+pub const WHOLE: u8 = rows::record::WHOLE as u8;
+
+pub const LEAVING: u8 = rows::record::LEAVING as u8;
 
 pub const ID_SIZE: usize = rows::record::Record::SOURCE - rows::record::Record::ID;
 
@@ -18,6 +24,14 @@ pub fn rec_off(place: u8) -> usize
     ensures { λ r. ⌜ r ≡ recOff place ⌝ }
 {
     rows::record::FIRST + rows::record::BYTES * (octets::small(place) - 1)
+}
+
+// Where the record starts that the link at byte at leads to.
+pub fn row_at(store: &[u8], at: usize) -> usize
+    requires { ⌜ Reached (now store) at ⌝ }
+    ensures { λ r. ⌜ (r ≡ recOff (placeAt (now (store .entry)) at)) × (r + recBytes ≤ length (now (store .entry))) ⌝ }
+{
+    rec_off(store[at])
 }
 
 // Where the cell at a place starts.

@@ -6,12 +6,13 @@ use rows::head::Head;
 use rows::record;
 use rows::record::Record;
 ghost use mathlib.Core.Path.{_≡_};
-ghost use Prim.Native.Nat.{_<_, _≤_};
+ghost use Prim.Native.Nat.{ℕ, _<_, _≤_};
 ghost use lib.ListN.{length};
 ghost use Rattle.machine.specs.Limits.{recCount, storeBytes};
 ghost use Rattle.machine.specs.Layout.{encode, decode};
-ghost use Rattle.machine.specs.Receive.{takeStep};
-ghost use Rattle.store.specs.Dropping.{Drops, Takable};
+ghost use Rattle.machine.specs.Receive.{dropStep, takeStep};
+ghost use Rattle.store.specs.HeldAt.{keyIn, HeldAt};
+ghost use Rattle.store.specs.Dropping.{Takable};
 ghost use Rattle.store.specs.Releasing.{recFree, released, unlinked, Releasable, Droppable};
 
 // The record at the place p becomes free, in front of the free records.
@@ -51,8 +52,8 @@ fn unlink(store: &mut [u8], at: usize)
 
 // The held record whose link stands at byte at is dropped.
 pub fn drop(store: &mut [u8], at: usize)
-    requires { ⌜ Droppable at (now store) ⌝ }
-    ensures { λ _. ⌜ Drops at (now (store .entry)) (now (store .exit)) ⌝ }
+    requires { ⌜ ((role : ℕ) × HeldAt role (now store) at) ⌝ }
+    ensures { λ _. ⌜ now (store .exit) ≡ encode (dropStep (keyIn (now (store .entry)) at) (decode (now (store .entry)))) ⌝ }
 {
     unlink(store, at);
 }

@@ -5,7 +5,7 @@ use Rattle.store.proofs.field.bytes.Statement.{statement}
 use Rattle.store.proofs.field.bytes.Tie as tie
 
 returns : tie.Need-returns
-returns c = bytes-are _ _ _ (c .before .row .ensures .0) _ _ (c .before .before .before .pre .1)
+returns c = bytes-are _ _ _ (c .before .row-at .ensures .0) _ _ (c .before .before .before .pre .1)
 
 pub bytes-spec : {M : Type 1} → statement M
 bytes-spec =

@@ -5,7 +5,7 @@ use Rattle.store.proofs.field.whole_row.Statement.{statement}
 use Rattle.store.proofs.field.whole_row.Tie as tie
 
 returns : tie.Need-returns
-returns c = row-is _ _ _ (c .before .row .ensures .0)
+returns c = row-is _ _ _ (c .before .row-at .ensures .0)
 
 pub whole-row-spec : {M : Type 1} → statement M
 whole-row-spec =

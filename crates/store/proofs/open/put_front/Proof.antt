@@ -11,7 +11,7 @@ returns c =
     let c14 = c10 .before .before .before .before in
     let c18 = c14 .before .before .before .before in
     let c24 = c18 .before .before .before .before .before .before in
-    front-is _ _ _ _ _ _ _ _ _ (c24 .pre .0) (c24 .pre .1) (c18 .mark .ensures) (c14 .before .before .before .slots .ensures)
+    front-is _ _ _ _ _ _ _ _ _ _ _ (c24 .pre .0) (c24 .pre .1) (c18 .mark .ensures) (c14 .before .before .before .slots .ensures)
     (c14 .copy-in .ensures) (c10 .copy-in2 .ensures) (c6 .copy-in3 .ensures) (c .before .before .copy-in4 .ensures)
 
 pub put-front-spec : {M : Type 1} → statement M

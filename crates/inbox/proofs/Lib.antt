@@ -1,3 +1,4 @@
 pub mod Inits
+pub mod Starts
 pub mod Takes
 pub mod Taken

@@ -7,10 +7,13 @@ ghost use mathlib.Core.Path.{_≡_};
 ghost use lib.ListN.{length};
 ghost use Rattle.topic.specs.Admission.{admissionOf, numberOf};
 ghost use Rattle.packet.specs.Frame.{initTopic};
-ghost use Rattle.machine.specs.Layout.{decode};
+ghost use mathlib.Core.List.{[]};
+ghost use Rattle.machine.specs.Layout.{encode, decode};
+ghost use Rattle.machine.specs.Receive.{initStep};
 ghost use Rattle.machine.specs.Refusals.{refusal};
-ghost use Rattle.machine.specs.Calls.{frameBytes, initRow};
-ghost use Rattle.inbox.specs.Arrives.{arrival, rulesRow};
+ghost use Rattle.machine.specs.Calls.{frameBytes, initRow, initHead};
+ghost use Rattle.inbox.specs.Arrives.{arrival, rulesRow, Startable};
+ghost use Rattle.store.specs.Refuse.{stepped};
 ghost use Rattle.store.specs.HeldAt.{Receives};
 
 // What a rule book says of a topic and a source.
@@ -58,4 +61,34 @@ fn refusal(recv: &[u8], frame: &[u8], from: &[u8; 16], rules: &[u8]) -> u64
         return answer::DONE;
     }
     answer::NO_RECORD
+}
+
+// An init that is not refused opens a record, or starts a held one again.
+fn start(recv: &mut [u8], frame: &[u8], from: &[u8; 16], to: &[u8; 16])
+    requires { ⌜ Receives (now recv) × (length (now frame) ≡ frameBytes) × Startable (decode (now recv)) (now frame) ⌝ }
+    ensures { λ _. ⌜ now (recv .exit) ≡ encode (initStep (initHead (arrival (now (frame .entry)) (now (from .entry)) (now (to .entry)) [] 0)) (decode (now (recv .entry)))) ⌝ }
+{
+    let id = header::id(frame);
+    let reply = header::is_reply(header::flags(frame));
+    let total = MessageInit::length(frame);
+    let topic = MessageInit::topic(frame);
+    let at = store::find::find_held(recv, id);
+    if recv[at] == 0 {
+        store::open::open_arriving(recv, id, from, to, reply, total, topic);
+    } else {
+        store::restart::restart(recv, at, id, from, to, reply, total, topic);
+    }
+}
+
+// Init: the number, and the store with the message announced.
+pub fn init(recv: &mut [u8], frame: &[u8], from: &[u8; 16], to: &[u8; 16], rules: &[u8]) -> u64
+    requires { ⌜ Receives (now recv) × (length (now frame) ≡ frameBytes) ⌝ }
+    ensures { λ r. ⌜ record { number = r; store = now (recv .exit) } ≡ stepped (refusal (initRow (arrival (now (frame .entry)) (now (from .entry)) (now (to .entry)) (now (rules .entry)) 0) (decode (now (recv .entry))))) (initStep (initHead (arrival (now (frame .entry)) (now (from .entry)) (now (to .entry)) (now (rules .entry)) 0)) (decode (now (recv .entry)))) (now (recv .entry)) ⌝ }
+{
+    let number = refusal(recv, frame, from, rules);
+    if number != answer::DONE {
+        return number;
+    }
+    start(recv, frame, from, to);
+    answer::DONE
 }

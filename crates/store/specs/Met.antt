@@ -81,11 +81,16 @@ module _ (role : ℕ) (b : List ℕ) (y : Bytes b) (t : sound role b ≡ true) w
           (Unheld.within role (decode b) valid b rep (q .before) r (q .behind) (q .is) .0)
           (all-found sameKey recKey (λ (x : Rec). x ≡ readRec b (x .place)) k r (decode b .held) e held-read)
 
-  -- a search that ends at a link to a record
+  -- a search that ends at the end of the chain, and one that ends at a link to a record
+  pub found-none : (k : Key) (at : ℕ) → at ≡ seek k b heldAt → placeAt b at ≡ 0 → found k (decode b .held) ≡ none
+  found-none k at e z = held-met k ∙ ap (metAt b) (sym e) ∙ rw (eq-eqb (getD b at 0) 0 z)
+
+  pub found-some : (k : Key) (at : ℕ) → at ≡ seek k b heldAt → (placeAt b at ≡ 0 → ⊥) → found k (decode b .held) ≡ some (recIn b at)
+  found-some k at e n = held-met k ∙ ap (metAt b) (sym e) ∙ rw (ne-eqb (getD b at 0) 0 n)
+
   pub sought-key : (k : Key) (at : ℕ) → at ≡ seek k b heldAt → 0 < placeAt b at → keyIn b at ≡ k
   sought-key k at e n =
-      let f : found k (decode b .held) ≡ some (recIn b at) =
-      held-met k ∙ ap (metAt b) (sym e) ∙ rw (ne-eqb (getD b at 0) 0 (λ z. omega arith)) in
+      let f : found k (decode b .held) ≡ some (recIn b at) = found-some k at e (λ z. omega arith) in
       sym (find-key sameKey recKey key-eq key-refl k (recIn b at) (decode b .held) f ∙ read-key b (placeAt b at))
 
   pub sought-held : (k : Key) (at : ℕ) → at ≡ seek k b heldAt → 0 < placeAt b at → HeldAt role b at

@@ -49,6 +49,12 @@ pub record HeldAt (role : ℕ) (b : List ℕ) (at : ℕ) : Type 0 where
   pub some : 0 < placeAt b at
   pub is : at ≡ seek (keyIn b at) b heldAt
 
+-- in a sound store b of a role, a search along the held chain ended at the link at byte `at`
+pub record Searched (role : ℕ) (b : List ℕ) (at : ℕ) : Type 0 where
+  pub sound : sound role b ≡ true
+  pub key : Key
+  pub is : at ≡ seek key b heldAt
+
 -- in bytes b, the link at byte `at` leads to a place of a record
 pub record Reached (b : List ℕ) (at : ℕ) : Type 0 where
   pub inside : at < length b

@@ -5,7 +5,7 @@ use mathlib.Core.Path.{_≡_, refl, sym, ap, _∙_, subst}
 use mathlib.Core.Bool.{true}
 use mathlib.Core.List.{List, [], _∷_, _++_, map}
 use mathlib.Core.Option.{Option, none, some}
-use lib.ListN.{getD}
+use lib.ListN.{length, getD}
 use borrow.Author.Tests.{eq-eqb, ne-eqb}
 use Rattle.octets.specs.Octets.{Bytes}
 use Rattle.octets.specs.Lists.{All}
@@ -33,7 +33,7 @@ use Rattle.steps.specs.Unique.{unique-apart}
 use Rattle.store.specs.Seek.{idIn, seek}
 use Rattle.store.specs.Sought.{seek-link}
 use Rattle.store.specs.InChains.{held-found, held-none}
-use Rattle.store.specs.HeldAt.{metAt, placeAt, rowIn, recIn, keyIn, HeldAt, Reached}
+use Rattle.store.specs.HeldAt.{metAt, placeAt, rowIn, recIn, keyIn, HeldAt, Searched, Reached}
 
 -- a record that is read has the key in its row
 pub read-key : (b : List ℕ) (p : ℕ) → recKey (readRec b p) ≡ idIn b p
@@ -95,6 +95,16 @@ module _ (role : ℕ) (b : List ℕ) (y : Bytes b) (t : sound role b ≡ true) w
 
   pub sought-held : (k : Key) (at : ℕ) → at ≡ seek k b heldAt → 0 < placeAt b at → HeldAt role b at
   sought-held k at e n = record { sound = t; some = n; is = e ∙ ap (λ (x : Key). seek x b heldAt) (sym (sought-key k at e n)) }
+
+-- a search ends inside the store, and where its link leads to a record, that is a held one
+module _ (role : ℕ) (b : List ℕ) (y : Bytes b) (at : ℕ) (h : Searched role b at) where
+  pub searched-inside : at < length b
+  searched-inside =
+      let l = links role b y (h .sound) in
+      omega (arith, l .long, seek-link (h .key) b (suc recCount) heldAt l (l .held) .inside, h .is)
+
+  pub searched-held : (placeAt b at ≡ 0 → ⊥) → HeldAt role b at
+  searched-held n = sought-held role b y (h .sound) (h .key) at (h .is) (omega (arith, n))
 
 -- ---- the record that a link leads to
 

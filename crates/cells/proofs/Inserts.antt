@@ -8,18 +8,14 @@ use mathlib.Core.List.{List, [], _∷_}
 use lib.ListN.{getD}
 use lib.Dec.{eqb}
 use borrow.Author.Tests.{eqb-false, ne-eqb}
-use Rattle.octets.specs.Octets.{put, Bytes}
+use Rattle.octets.specs.Octets.{put}
 use Rattle.octets.specs.Bools.{cases, clash}
-use Rattle.machine.specs.Limits.{recCount, largestPiece}
-use Rattle.machine.specs.Values.{Rec, Key}
-use Rattle.machine.specs.Layout.{recOff, cellOff, cellRow, encode, decode}
-use Rattle.machine.specs.Sound.{AtMost}
+use Rattle.machine.specs.Limits.{recCount}
+use Rattle.machine.specs.Layout.{recOff, cellOff, cellRow}
 use Rattle.machine.specs.Pieces.{newCell}
-use Rattle.machine.specs.Receive.{chunkStep}
 use Rattle.links.specs.Links.{Links}
-use Rattle.cells.specs.InPlace.{spotFrom, spotIn, indexBehind, holdsIndex, rewritten, grown, inserted, chunked, LinkIn, CellIn, Ready}
+use Rattle.cells.specs.InPlace.{spotFrom, spotIn, indexBehind, holdsIndex, rewritten, grown, inserted, chunked, LinkIn, CellIn}
 use Rattle.cells.specs.Read.{cell-in}
-use Rattle.cells.specs.Chunk.{ready-is}
 
 pub grow-written : (b b1 : List ℕ) (at k i x slots : ℕ) → at ≡ recOff k → x ≡ getD b (at + 7) 0 → slots ≡ max x (i + 1) → b1 ≡ put b (at + 7) (slots ∷ []) → b1 ≡ grown b k i
 grow-written b b1 at k i x slots q y n e =
@@ -75,8 +71,3 @@ module _ (b e : List ℕ) (link k i : ℕ) (bytes : List ℕ) (q : link ≡ spot
   chunk-new h w =
       w ∙ ap (λ (o : ℕ). inserted b k o i bytes) q
       ∙ ap (λ (t : Bool). cond t (rewritten b (getD b (spotIn b k i) 0) bytes) (inserted b k (spotIn b k i) i bytes)) (h ∙ ap (λ (o : ℕ). holdsIndex b o i) q)
-
--- what the bytes become is what the step makes of the store
-pub step-is : (b e : List ℕ) (k i : ℕ) (bytes : List ℕ) → Bytes b → AtMost largestPiece bytes → e ≡ chunked b k i bytes
-    → (key : Key) (r : Rec) → r .place ≡ k → Ready b key r i → e ≡ encode (chunkStep key i bytes (decode b))
-step-is b e k i bytes y z w key r p h = w ∙ ap (λ (j : ℕ). chunked b j i bytes) (sym p) ∙ ready-is b key r i bytes y z h

@@ -1,3 +1,4 @@
 pub mod Rows
 pub mod Walks
 pub mod Inserts
+pub mod Cuts

@@ -13,11 +13,11 @@ use Rattle.octets.specs.Parts.{put-nil, put-put, part-of}
 use Rattle.machine.specs.Limits.{largestPiece, cellBytes, mostCells}
 use Rattle.machine.specs.Values.{Cell}
 use Rattle.machine.specs.Counting.{occurs}
-use Rattle.machine.specs.Layout.{countAt, cellOff, pieceStateAt, readCell}
+use Rattle.machine.specs.Layout.{countAt, cellOff, readCell}
 use Rattle.machine.specs.Sound.{sizes}
 use Rattle.machine.specs.Pieces.{joined}
 use Rattle.links.specs.Links.{Links}
-use Rattle.cells.specs.Read.{cell-in, sizeOf, piece-state, piece-bytes, piece-size, cellsFrom, cells-end, cells-out, cells-more}
+use Rattle.cells.specs.Read.{cell-in, sizeOf, piece-bytes, piece-size, cellsFrom, cells-end, cells-out, cells-more}
 use Rattle.cells.specs.InPlace.{pieceState, indexBehind, spotFrom}
 
 -- ---- a cell that is met
@@ -76,6 +76,7 @@ module _ (b : List ℕ) (n at i x : ℕ) (h : n < 46) (q : x ≡ getD b at 0) wh
 -- the piece of the cell k, whose row starts at `from`, has n bytes
 pub record Piece (b : List ℕ) (k from n : ℕ) : Type 0 where
   pub fits : from + 16 + n ≤ length b
+  pub most : n ≤ largestPiece
   pub size : length (readCell b k .bytes) ≡ n
   pub is : take (from + 16 + n - (from + 16)) (drop (from + 16) b) ≡ readCell b k .bytes
 
@@ -86,6 +87,7 @@ piece-here b k from n h a g q e =
     let z : n ≡ sizeOf b k = e ∙ ap (λ (o : ℕ). num 2 (part b (o + 2) 2)) q in
     record {
       fits = omega (arith, i .fits);
+      most = omega (arith, z, s);
       size = piece-size b k i s ∙ sym z;
       is = part-of b (from + 16) (from + 16 + n) n (omega arith) ∙ (λ t. part b (q t + 16) (z t)) ∙ sym (piece-bytes b k s);
     }
@@ -135,20 +137,50 @@ module _ (b : List ℕ) (first : ℕ) (start out : List ℕ) (x at n : ℕ) (j :
               ∙ ap (λ (l : List Cell). put out at (joined l)) (sym left) ∙ j .gives);
         }
 
--- ---- counted
+-- ---- added up
 
-abbrev pub stateCount : List ℕ → ℕ → ℕ → ℕ → ℕ
-stateCount b state n x = occurs state (map pieceState (cellsFrom b n x))
+-- the cells left from x on after n steps, with `sum` of those before, give what the cells from `first` on give
+pub record Adding (g : List Cell → ℕ) (b : List ℕ) (first x sum n : ℕ) : Type 0 where
+  pub turns : n ≤ 46
+  pub leads : x ≤ getD b countAt 0
+  pub gives : sum + g (cellsFrom b (46 - n) x) ≡ g (cellsFrom b 46 first)
 
-pub count-end : (b : List ℕ) (state n x : ℕ) → x ≡ 0 → stateCount b state n x ≡ 0
-count-end b state n x e = ap (λ (l : List Cell). occurs state (map pieceState l)) (cells-end b n x e)
+-- g adds up what each cell gives
+module _ (g : List Cell → ℕ) (each : Cell → ℕ) (none : g [] ≡ 0) (more : (c : Cell) (l : List Cell) → g (c ∷ l) ≡ each c + g l)
+    (b : List ℕ) (first x sum n : ℕ) (a : Adding g b first x sum n) where
+  -- nothing is left
+  pub added-end : x ≡ 0 → sum ≡ g (cellsFrom b 46 first)
+  added-end e = omega (arith, a .gives, ap g (cells-end b (46 - n) x e), none)
 
-pub count-out : (b : List ℕ) (state n x : ℕ) → 46 ≤ n → stateCount b state (46 - n) x ≡ 0
-count-out b state n x h = ap (λ (l : List Cell). occurs state (map pieceState l)) (cells-out b (46 - n) x (omega arith))
+  pub added-out : 46 ≤ n → sum ≡ g (cellsFrom b 46 first)
+  added-out h = omega (arith, a .gives, ap g (cells-out b (46 - n) x (omega arith)), none)
 
-pub count-more : (b : List ℕ) (state n x : ℕ) → n < 46 → 0 < x
-    → stateCount b state (46 - n) x ≡ one (eqb state (getD b (cellOff x + pieceStateAt) 0)) + stateCount b state (46 - (n + 1)) (getD b (cellOff x) 0)
-count-more b state n x h some =
-    let m : 46 - n - 1 ≡ 46 - (n + 1) = omega arith in
-    ap (λ (l : List Cell). occurs state (map pieceState l)) (cells-more b (46 - n) x (omega arith) some)
-    ∙ (λ t. one (eqb state (piece-state b x t)) + stateCount b state (m t) (getD b (cellOff x) 0))
+  -- one more cell, which gives z and leads to y
+  pub added-more : n < 46 → (cell : ℕ) → Met b x cell → cell ≡ cellOff x → (y z : ℕ) → y ≡ getD b cell 0 → z ≡ each (readCell b x) → Adding g b first y (sum + z) (n + 1)
+  added-more h cell m q y z e f =
+      let k : 46 - n - 1 ≡ 46 - (n + 1) = omega arith in
+      let left : g (cellsFrom b (46 - n) x) ≡ each (readCell b x) + g (cellsFrom b (46 - (n + 1)) y) =
+      ap g (cells-more b (46 - n) x (omega arith) (m .some)) ∙ more (readCell b x) (cellsFrom b (46 - n - 1) (getD b (cellOff x) 0))
+      ∙ (λ t. each (readCell b x) + g (cellsFrom b (k t) (sym (e ∙ ap (λ (o : ℕ). getD b o 0) q) t))) in
+      record { turns = omega arith; leads = omega (arith, m .leads, e); gives = omega (arith, a .gives, left, f) }
+
+-- how many have a state, how many there are, and how many bytes they have
+abbrev pub stateCount : ℕ → List Cell → ℕ
+stateCount state l = occurs state (map pieceState l)
+
+abbrev pub stateOne : ℕ → Cell → ℕ
+stateOne state c = one (eqb state (c .state))
+
+pub state-more : (state : ℕ) (c : Cell) (l : List Cell) → stateCount state (c ∷ l) ≡ stateOne state c + stateCount state l
+state-more state c l = refl
+
+pub length-more : (c : Cell) (l : List Cell) → length (c ∷ l) ≡ 1 + length l
+length-more c l = omega arith
+
+pub sizes-none : sizes [] ≡ 0
+unfolding sizes
+sizes-none = refl
+
+pub sizes-more : (c : Cell) (l : List Cell) → sizes (c ∷ l) ≡ length (c .bytes) + sizes l
+unfolding sizes
+sizes-more c l = refl

@@ -15,7 +15,7 @@ use Rattle.machine.specs.Limits.{recBytes, cellBytes, largestPiece, topOf}
 use Rattle.machine.specs.Codes.{roleReceive}
 use Rattle.machine.specs.Values.{Cell, Rec, Store, Key, sameKey}
 use Rattle.machine.specs.Chains.{first, chainRows}
-use Rattle.machine.specs.Layout.{freeCellsAt, slotsAt, recOff, cellOff, recRow, cellRow, cellPlace, freePlace, freeRow, cellAt, encode, decode}
+use Rattle.machine.specs.Layout.{freeCellsAt, slotsAt, recOff, cellOff, recRow, cellRow, cellPlace, freePlace, freeRow, cellAt, recOf, encode, decode}
 use Rattle.machine.specs.Sound.{AtMost, Valid}
 use Rattle.machine.specs.Find.{isSome}
 use Rattle.machine.specs.Pieces.{newCell, pieceAt, rest}
@@ -36,11 +36,12 @@ use Rattle.links.specs.Swap.{heldStore, row-is}
 use Rattle.steps.specs.Find.{find-key}
 use Rattle.steps.specs.Chunk.{chunk-valid}
 use Rattle.links.specs.Links.{Links}
-use Rattle.links.specs.InRange.{links, sound-rep}
-use Rattle.laws.specs.SoundValid.{sound-valid}
-use Rattle.cells.specs.InPlace.{spotIn, holdsIndex, rewritten, insertedAt, inserted, chunked, PieceFits, Ready}
+use Rattle.links.specs.InRange.{links}
+use Rattle.store.specs.HeldAt.{placeAt, recIn, keyIn, HeldAt}
+use Rattle.store.specs.Met.{valid, rep, held-here}
+use Rattle.cells.specs.InPlace.{spotIn, holdsIndex, rewritten, insertedAt, inserted, chunked, PieceFits}
 use Rattle.cells.specs.Read.{cell-next}
-use Rattle.cells.specs.Spot.{below, onward, below-onward, put-new, HeldAt, put-held}
+use Rattle.cells.specs.Spot.{below, onward, below-onward, put-new, PieceHeld, put-held}
 use Rattle.cells.specs.Held.{fine, spot-of, spot-some, spot-leads}
 use Rattle.cells.specs.Rewrite.{new-sized, rewrite-rep}
 use Rattle.cells.specs.Insert.{insertBytes, insert-rep}
@@ -74,7 +75,7 @@ module _ (key : Key) (i : ℕ) (bytes : List ℕ) (r : Rec) (s : Store) (b : Lis
   -- ---- a held index
 
   module _ (held : isSome (pieceAt i (r .cells)) ≡ true) where
-    h : HeldAt (first FC) i bytes (r .cells)
+    h : PieceHeld (first FC) i bytes (r .cells)
     h = put-held (first FC) i bytes 0 (r .slots) (r .cells) (fine roleReceive s v l r m (at .is) .rises) held
 
     parts : r .cells ≡ below i (r .cells) ++ (h .piece ∷ h .behind)
@@ -190,22 +191,25 @@ module _ (key : Key) (i : ℕ) (bytes : List ℕ) (r : Rec) (s : Store) (b : Lis
       let f = fine roleReceive s v l r m (at .is) in
       record { some = w .0; most = w .1; index = omega (arith, slots-few (r .head .total) (f .total)); size = z .0 }
 
--- ---- of bytes that are ready
+-- ---- of the held record that a link leads to
 
-pub ready-is : (b : List ℕ) (key : Key) (r : Rec) (i : ℕ) (bytes : List ℕ) → Bytes b → AtMost largestPiece bytes → Ready b key r i
-    → chunked b (r .place) i bytes ≡ encode (chunkStep key i bytes (decode b))
-ready-is b key r i bytes y z h =
-    let v = sound-valid roleReceive b y (h .sound) .0 in
-    let rep = sound-rep roleReceive b y (h .sound) in
-    chunk-is key i bytes r (decode b) b v rep (h .found) z (h .top) (h .room)
+-- an index to top that is held or finds a free cell: rows 8 to 12 are past
+module _ (b : List ℕ) (at i : ℕ) (bytes : List ℕ) (y : Bytes b) (h : HeldAt roleReceive b at) (z : AtMost largestPiece bytes)
+    (top : i ≤ topOf (recIn b at .head .total)) (room : cellsNeeded i (recIn b at) ≤ length (decode b .freeCells)) where
+  -- what the step makes of the store
+  pub put-is : chunked b (placeAt b at) i bytes ≡ encode (chunkStep (keyIn b at) i bytes (decode b))
+  unfolding recOf
+  put-is =
+      chunk-is (keyIn b at) i bytes (recIn b at) (decode b) b (valid roleReceive b y (h .sound)) (rep roleReceive b y (h .sound)) (held-here roleReceive b y at h) z top room
 
--- what the code asks
-pub ready-asks : (b : List ℕ) (key : Key) (r : Rec) (i : ℕ) (bytes : List ℕ) → Bytes b → AtMost largestPiece bytes → Ready b key r i
-    → Links b × PieceFits (r .place) i (length bytes) × (holdsIndex b (spotIn b (r .place) i) i ≡ false → 0 < getD b freeCellsAt 0)
-ready-asks b key r i bytes y z h =
-    let v = sound-valid roleReceive b y (h .sound) .0 in
-    let rep = sound-rep roleReceive b y (h .sound) in (
-      links roleReceive b y (h .sound),
-      chunk-fits key i bytes r (decode b) b v rep (h .found) z (h .top),
-      chunk-free key i bytes r (decode b) b v rep (h .found) z (h .room),
-    )
+  -- what the code asks
+  pub put-asks : Links b × PieceFits (placeAt b at) i (length bytes) × (holdsIndex b (spotIn b (placeAt b at) i) i ≡ false → 0 < getD b freeCellsAt 0)
+  unfolding recOf
+  put-asks =
+      let v = valid roleReceive b y (h .sound) in
+      let p = rep roleReceive b y (h .sound) in
+      let e = held-here roleReceive b y at h in (
+        links roleReceive b y (h .sound),
+        chunk-fits (keyIn b at) i bytes (recIn b at) (decode b) b v p e z top,
+        chunk-free (keyIn b at) i bytes (recIn b at) (decode b) b v p e z room,
+      )

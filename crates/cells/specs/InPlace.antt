@@ -1,20 +1,14 @@
 -- What the operations make of the bytes of a store, as the contracts state it.
 use Prim.Native.Nat.{ℕ, zero, suc, _+_, _≤_, _<_, max}
-use mathlib.Core.Path.{_≡_}
-use mathlib.Core.Bool.{Bool, true, false, cond}
+use mathlib.Core.Bool.{Bool, false, cond}
 use mathlib.Core.List.{List, [], _∷_, _++_}
-use mathlib.Core.Option.{some}
 use lib.ListN.{length, getD}
 use lib.Dec.{eqb, leb}
 use Rattle.octets.specs.Octets.{put, be}
-use Rattle.machine.specs.Limits.{recCount, cellBytes, mostCells, largestPiece, topOf}
-use Rattle.machine.specs.Codes.{roleReceive}
-use Rattle.machine.specs.Values.{Cell, Rec, Key}
-use Rattle.machine.specs.Layout.{countAt, freeCellsAt, firstCellAt, slotsAt, indexAt, stampAt, numberWidth, recOff, cellOff, cellRow, decode}
-use Rattle.machine.specs.Sound.{sound}
+use Rattle.machine.specs.Limits.{recCount, cellBytes, mostCells, largestPiece}
+use Rattle.machine.specs.Values.{Cell}
+use Rattle.machine.specs.Layout.{countAt, freeCellsAt, firstCellAt, slotsAt, indexAt, stampAt, numberWidth, recOff, cellOff, cellRow}
 use Rattle.machine.specs.Pieces.{newCell}
-use Rattle.machine.specs.Receive.{found}
-use Rattle.machine.specs.Calls.{cellsNeeded}
 
 -- ---- walks
 
@@ -89,10 +83,3 @@ pub record PieceFits (k i n : ℕ) : Type 0 where
   pub most : k ≤ recCount
   pub index : suc i < 256
   pub size : n ≤ largestPiece
-
--- bytes with a record found by its key, and an index to top that is held or finds a free cell: rows 8 to 12 are past
-pub record Ready (b : List ℕ) (key : Key) (r : Rec) (i : ℕ) : Type 0 where
-  pub sound : sound roleReceive b ≡ true
-  pub found : found key (decode b .held) ≡ some r
-  pub top : i ≤ topOf (r .head .total)
-  pub room : cellsNeeded i r ≤ length (decode b .freeCells)

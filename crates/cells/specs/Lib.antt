@@ -7,3 +7,6 @@ pub mod Mark
 pub mod RecLink
 pub mod Insert
 pub mod Chunk
+pub mod OfHeld
+pub mod Ack
+pub mod Cutting

@@ -120,7 +120,7 @@ module _ (place i : ℕ) (bytes : List ℕ) where
       rw (e, f, le-ltb i (c .index) (omega arith)) (ap (λ (x : List Cell). c ∷ x) (put-new l (rw f at h)))))
 
   -- a held index: the piece there, and what follows it
-  pub record HeldAt (l : List Cell) : Type 0 where
+  pub record PieceHeld (l : List Cell) : Type 0 where
     pub piece : Cell
     pub behind : List Cell
     pub is : onward i l ≡ piece ∷ behind
@@ -135,7 +135,7 @@ module _ (place i : ℕ) (bytes : List ℕ) where
       (λ e. clash h (ap isSome (piece-below i (suc (c .index)) high l (omega (arith, ltb-true i (c .index) e)) (s .2))))
       (λ e. omega (arith, ltb-false i (c .index) e, eqb-false i (c .index) f))
 
-  pub put-held : (low high : ℕ) (l : List Cell) → rising low high l ≡ true → isSome (pieceAt i l) ≡ true → HeldAt l
+  pub put-held : (low high : ℕ) (l : List Cell) → rising low high l ≡ true → isSome (pieceAt i l) ≡ true → PieceHeld l
   unfolding find putPiece below onward
   put-held low high [] r h = clash h refl
   put-held low high (c ∷ l) r h =

@@ -15,12 +15,14 @@ ghost use mathlib.Core.Path.{_≡_};
 ghost use mathlib.Core.Bool.{false};
 ghost use Prim.Native.Nat.{_+_, _≤_, _<_, max};
 ghost use lib.ListN.{length, getD};
-ghost use Rattle.machine.specs.Limits.{recCount, recBytes};
-ghost use Rattle.machine.specs.Values.{Rec, Key};
+ghost use Rattle.machine.specs.Limits.{recCount, recBytes, largestPiece, topOf};
+ghost use Rattle.machine.specs.Codes.{roleReceive};
 ghost use Rattle.machine.specs.Layout.{freeCellsAt, recOff, encode, decode};
 ghost use Rattle.machine.specs.Receive.{chunkStep};
+ghost use Rattle.machine.specs.Calls.{cellsNeeded};
 ghost use Rattle.links.specs.Links.{Links};
-ghost use Rattle.cells.specs.InPlace.{spotIn, holdsIndex, grown, inserted, chunked, LinkIn, PieceFits, Ready};
+ghost use Rattle.store.specs.HeldAt.{recIn, keyIn, HeldAt};
+ghost use Rattle.cells.specs.InPlace.{spotIn, holdsIndex, grown, inserted, chunked, LinkIn, PieceFits};
 
 // The larger of two numbers.
 fn larger(a: u64, b: u64) -> u64
@@ -71,11 +73,10 @@ pub fn insert(store: &mut [u8], place: usize, link: usize, index: u64, bytes: &[
     copy_in(store, link, &here);
 }
 
-// A piece of a record, at a new index or at one that is held.
-pub fn put_piece(store: &mut [u8], place: usize, index: u64, bytes: &[u8])
+// A piece of the record at a place, at a new index or at one that is held.
+fn put_in(store: &mut [u8], place: usize, index: u64, bytes: &[u8])
     requires { ⌜ Links (now store) × PieceFits place index (length (now bytes)) × (holdsIndex (now store) (spotIn (now store) place index) index ≡ false → 0 < getD (now store) freeCellsAt 0) ⌝ }
-    ensures bytes { λ _. ⌜ now (store .exit) ≡ chunked (now (store .entry)) place index (now (bytes .entry)) ⌝ }
-    ensures step { λ _. ⌜ ((key : Key) (r : Rec) → r .place ≡ place → Ready (now (store .entry)) key r index → now (store .exit) ≡ encode (chunkStep key index (now (bytes .entry)) (decode (now (store .entry))))) ⌝ }
+    ensures { λ _. ⌜ now (store .exit) ≡ chunked (now (store .entry)) place index (now (bytes .entry)) ⌝ }
 {
     let from = record_at(place) + FIRST_CELL_AT;
     let link = spot(store, from, index);
@@ -85,4 +86,13 @@ pub fn put_piece(store: &mut [u8], place: usize, index: u64, bytes: &[u8])
     } else {
         insert(store, place, link, index, bytes);
     }
+}
+
+// A piece of the held record whose link stands at byte `at`.
+pub fn put_piece(store: &mut [u8], at: usize, index: u64, bytes: &[u8])
+    requires { ⌜ HeldAt roleReceive (now store) at × (index ≤ topOf (recIn (now store) at .head .total)) × (cellsNeeded index (recIn (now store) at) ≤ length (decode (now store) .freeCells)) × (length (now bytes) ≤ largestPiece) ⌝ }
+    ensures { λ _. ⌜ now (store .exit) ≡ encode (chunkStep (keyIn (now (store .entry)) at) index (now (bytes .entry)) (decode (now (store .entry)))) ⌝ }
+{
+    let place = small(store[at]);
+    put_in(store, place, index, bytes);
 }

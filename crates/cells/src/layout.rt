@@ -23,6 +23,12 @@ pub const STATE_AT: usize = rows::cell::Cell::STATE;
 
 pub const BYTES_AT: usize = rows::cell::Cell::PIECE;
 
+// The state of a piece that is acknowledged.
+pub const ACKED: u8 = rows::cell::ACKED;
+
+// Data is cut by 1,300 bytes.
+pub const CUT_BY: usize = rows::message::CUT as usize;
+
 // The most bytes that a piece has.
 pub const LARGEST_PIECE: usize = rows::cell::LARGEST;
 

@@ -1,5 +1,6 @@
-// Walks along the cells of a record: the spot of an index, the pieces joined, and how many have a state.
+// Walks along a chain of cells: the spot of an index, the pieces joined, and how many cells, bytes and pieces of a state there are.
 use crate::layout::BYTES_AT;
+use crate::layout::FREE_CELLS_AT;
 use crate::layout::INDEX_AT;
 use crate::layout::MOST_STEPS;
 use crate::layout::SIZE_AT;
@@ -17,7 +18,7 @@ ghost use lib.Dec.{eqb};
 ghost use Rattle.octets.specs.Bools.{one};
 ghost use Rattle.octets.specs.Octets.{put};
 ghost use Rattle.machine.specs.Counting.{occurs};
-ghost use Rattle.machine.specs.Layout.{countAt, readCell, readCells};
+ghost use Rattle.machine.specs.Layout.{countAt, freeCellsAt, cellChain, readCell, readCells};
 ghost use Rattle.machine.specs.Sound.{sizes};
 ghost use Rattle.machine.specs.Pieces.{joined};
 ghost use Rattle.links.specs.Links.{Links};
@@ -103,4 +104,52 @@ pub fn count(store: &[u8], first: usize, state: u8) -> u64
         n += 1;
     }
     found
+}
+
+// How many cells there are from the cell `first` on.
+pub fn cells(store: &[u8], first: usize) -> u64
+    requires { ⌜ Links (now store) × (first ≤ getD (now store) countAt 0) ⌝ }
+    ensures { λ r. ⌜ (r ≡ length (readCells (now (store .entry)) first)) × (r ≤ 46) ⌝ }
+{
+    let mut x = first;
+    let mut found: u64 = 0;
+    let mut n: usize = 0;
+    while n < MOST_STEPS {
+        if x == 0 {
+            return found;
+        }
+        let cell = cell_at(x);
+        x = small(store[cell]);
+        found += 1;
+        n += 1;
+    }
+    found
+}
+
+// How many bytes the pieces from the cell `first` on have together.
+pub fn total(store: &[u8], first: usize) -> u64
+    requires { ⌜ Links (now store) × (first ≤ getD (now store) countAt 0) ⌝ }
+    ensures { λ r. ⌜ r ≡ sizes (readCells (now (store .entry)) first) ⌝ }
+{
+    let mut x = first;
+    let mut sum: u64 = 0;
+    let mut n: usize = 0;
+    while n < MOST_STEPS {
+        if x == 0 {
+            return sum;
+        }
+        let cell = cell_at(x);
+        sum = sum + get16(store, cell + SIZE_AT);
+        x = small(store[cell]);
+        n += 1;
+    }
+    sum
+}
+
+// How many cells are free.
+pub fn count_free(store: &[u8]) -> u64
+    requires { ⌜ Links (now store) ⌝ }
+    ensures { λ r. ⌜ (r ≡ length (cellChain (now (store .entry)) (getD (now (store .entry)) freeCellsAt 0))) × (r ≤ 46) ⌝ }
+{
+    cells(store, small(store[FREE_CELLS_AT]))
 }

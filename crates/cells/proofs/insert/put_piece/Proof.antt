@@ -1,71 +1,43 @@
--- Both ways the bytes become what `chunked` says, and so what the step makes of the store. Assumes nothing.
-use native.Mathlib.Omega.{arith}
-use Prim.Native.Nat.{ℕ}
+-- The law of a piece that comes says what the store is. Assumes nothing.
+use Prim.Native.Nat.{ℕ, _<_}
 use mathlib.Core.Path.{_≡_, sym, ap, _∙_, subst}
 use mathlib.Core.Bool.{false}
-use Rattle.cells.specs.InPlace.{spotIn, holdsIndex, CellIn}
-use Rattle.cells.proofs.Inserts.{first-in, spot-in, holds-cell, chunk-held, chunk-new, step-is}
+use lib.ListN.{length, getD}
+use Rattle.links.specs.Links.{Links}
+use Rattle.machine.specs.Layout.{freeCellsAt}
+use Rattle.cells.specs.InPlace.{spotIn, holdsIndex, chunked, PieceFits}
+use Rattle.cells.specs.OfHeld.{here-inside}
+use Rattle.cells.specs.Chunk.{put-is, put-asks}
 use borrow.Author.Needs.{needs}
 use Rattle.cells.proofs.insert.put_piece.Statement.{statement}
 use Rattle.cells.proofs.insert.put_piece.Tie as tie
 
-spot-requires : tie.Need-spot-requires
-spot-requires c κs =
-    let start = c .before .before .before .before in
-    (start .pre .0, first-in _ _ _ (start .pre .0) (start .pre .1 .some) (start .pre .1 .most) (c .before .record-at .ensures))
+slice-read-small : tie.Need-slice-read-small
+slice-read-small c =
+    let known = c .before .before in
+    here-inside _ _ (λ i. known .slice-known .given i .fits) _ (known .before .pre .0)
 
-rewrite-requires : tie.Need-rewrite-requires
-rewrite-requires c κs =
-    let taken = c .before .before .before in
-    let spot = taken .before .before .before in
-    let start = spot .before .before .before .before .before in
-    let b = start .args .store .now in
-    let cell = holds-cell b (spot .spot .result) (start .args .index) (start .pre .0) (spot .spot .ensures .1) (sym (taken .before .holds .ensures) ∙ taken .if1 .taken) in
-    (subst (CellIn b) (sym (c .before .small .ensures .0)) cell, start .pre .1 .size)
-
-insert-requires : tie.Need-insert-requires
-insert-requires c κs =
-    let left = c .before in
-    let spot = left .before .before .before in
-    let start = spot .before .before .before .before .before in
+put-in-requires : tie.Need-put-in-requires
+put-in-requires c κs =
+    let shared = c .before .before .before in
+    let start = shared .before .before in
     let b = start .args .store .now in
     let i = start .args .index in
-    let q = spot-in b (spot .spot .result) _ (start .args .place) i (spot .spot .ensures .0) (spot .before .before .record-at .ensures) in
-    let none : holdsIndex b (spotIn b (start .args .place) i) i ≡ false = ap (λ (o : ℕ). holdsIndex b o i) (sym q) ∙ sym (left .before .holds .ensures) ∙ left .if1 .left in
-    (start .pre .0, spot .spot .ensures .1, start .pre .1, start .pre .2 none)
+    let n = length (start .args .bytes .now) in
+    subst (λ (k : ℕ). Links b × PieceFits k i n × (holdsIndex b (spotIn b k i) i ≡ false → 0 < getD b freeCellsAt 0)) (sym (c .before .small .ensures .0))
+    (put-asks b _ i (start .args .bytes .now) (λ j. shared .before .slice-known .given j .fits) (start .pre .0) (start .pre .3, λ j. shared .shared-slice-known .given j .fits) (start .pre .1) (start .pre .2))
 
 returns : tie.Need-returns
 returns c =
-    let write = c .before .before in
-    let small = write .before .before in
-    let taken = small .before .before in
-    let spot = taken .before .before .before in
-    let known = spot .before .before .before in
-    let start = known .before .before in
+    let put = c .before .before in
+    let small = put .before .before in
+    let shared = small .before .before in
+    let start = shared .before .before in
     let b = start .args .store .now in
-    let k = start .args .place in
     let i = start .args .index in
     let bytes = start .args .bytes .now in
-    let q = spot-in b (spot .spot .result) _ k i (spot .spot .ensures .0) (spot .before .before .record-at .ensures) in
-    let is = chunk-held b _ (spot .spot .result) k i bytes q (small .small .result) (sym (taken .if1 .taken) ∙ taken .before .holds .ensures) (small .small .ensures .0) (write .rewrite .ensures) in
-    (is, step-is b _ k i bytes (λ j. omega (arith, known .before .slice-known .given j)) (start .pre .1 .size, λ j. omega (arith, known .shared-slice-known .given j)) is)
-
-returns-2 : tie.Need-returns-2
-returns-2 c =
-    let write = c .before .before in
-    let left = write .before .before in
-    let spot = left .before .before .before in
-    let known = spot .before .before .before in
-    let start = known .before .before in
-    let b = start .args .store .now in
-    let k = start .args .place in
-    let i = start .args .index in
-    let bytes = start .args .bytes .now in
-    let q = spot-in b (spot .spot .result) _ k i (spot .spot .ensures .0) (spot .before .before .record-at .ensures) in
-    let is = chunk-new b _ (spot .spot .result) k i bytes q (sym (left .if1 .left) ∙ left .before .holds .ensures) (write .insert .ensures) in
-    (is, step-is b _ k i bytes (λ j. omega (arith, known .before .slice-known .given j)) (start .pre .1 .size, λ j. omega (arith, known .shared-slice-known .given j)) is)
+    put .put-in .ensures ∙ ap (λ (k : ℕ). chunked b k i bytes) (small .small .ensures .0)
+    ∙ put-is b _ i bytes (λ j. shared .before .slice-known .given j .fits) (start .pre .0) (start .pre .3, λ j. shared .shared-slice-known .given j .fits) (start .pre .1) (start .pre .2)
 
 pub put-piece-spec : {M : Type 1} → statement M
-put-piece-spec =
-    tie.close
-    (tie.spec (λ c κs. search needs) (λ c. search needs) spot-requires (λ c κs. search needs) (λ c. search needs) (λ c κs. search needs) rewrite-requires insert-requires (λ c. search needs) returns (λ c. search needs) returns-2)
+put-piece-spec = tie.close (tie.spec slice-read-small (λ c κs. search needs) put-in-requires (λ c. search needs) returns)

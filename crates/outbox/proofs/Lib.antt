@@ -1,0 +1,4 @@
+pub mod Names
+pub mod Pieces
+pub mod Going
+pub mod Packets

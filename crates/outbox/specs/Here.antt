@@ -1,0 +1,77 @@
+-- The record that a link leads to, in the bytes of a sound send store: its row is inside, and its fields are read from it. Assumes nothing.
+use Prim.Native.Nat.{ℕ, suc, _+_, _≤_, _<_}
+use native.Mathlib.Omega.{arith}
+use mathlib.Core.Path.{_≡_, sym, ap, subst}
+use mathlib.Core.List.{List, map}
+use lib.ListN.{length, getD}
+use Rattle.octets.specs.Octets.{Bytes}
+use Rattle.octets.specs.Parts.{getD-part}
+use Rattle.machine.specs.Limits.{longest, recCount, recBytes}
+use Rattle.machine.specs.Codes.{roleSend, kindLeaving}
+use Rattle.machine.specs.Chains.{first}
+use Rattle.machine.specs.Layout.{countAt, heldAt, stateAt, timedOutAt, firstCellAt, slotsAt, recOff, recOf, cellPlace, readCells, decode}
+use Rattle.machine.specs.Sound.{sizes, HeadSized}
+use Rattle.laws.specs.Fine.{fine-complete}
+use Rattle.links.specs.Links.{Links, RecLink}
+use Rattle.links.specs.InRange.{links}
+use Rattle.store.specs.Sought.{seek-link}
+use Rattle.store.specs.HeldAt.{placeAt, recIn, keyIn, HeldAt}
+use Rattle.store.specs.Met.{valid, rep, here-fine, here-sized, here-within, here-split}
+use Rattle.cells.specs.Held.{first-piece}
+
+-- the link at byte `at` and the row that it leads to are inside, and what the record there is
+pub record Here (b : List ℕ) (at : ℕ) : Type 0 where
+  pub links : Links b
+  pub inside : at < length b
+  pub some : 1 ≤ placeAt b at
+  pub most : placeAt b at ≤ recCount
+  pub row : recOff (placeAt b at) + recBytes ≤ length b
+  pub small : getD b (recOff (placeAt b at) + firstCellAt) 0 ≤ getD b countAt 0
+  -- its fields have their widths; it is complete and not too long
+  pub sized : HeadSized (recIn b at .head)
+  pub counted : length (recIn b at .cells) ≡ recIn b at .slots
+  pub whole : sizes (recIn b at .cells) ≤ longest
+
+pub here : (b : List ℕ) → Bytes b → (at : ℕ) → HeldAt roleSend b at → Here b at
+here b y at h =
+    let l = links roleSend b y (h .sound) in
+    let z = here-within roleSend b y at h in
+    let f = here-fine roleSend b y at h in
+    let complete = fine-complete roleSend kindLeaving (recIn b at) (λ e. omega arith) f in
+    let i : RecLink b at = subst (RecLink b) (sym (h .is)) (seek-link (keyIn b at) b (suc recCount) heldAt l (l .held)) in
+    record {
+      links = l;
+      inside = omega (arith, i .inside, l .long);
+      some = z .0;
+      most = z .1;
+      row = omega (arith, z .0, z .1, l .long);
+      small = l .firsts (placeAt b at) (z .0) (z .1);
+      sized = here-sized roleSend b y at h .head;
+      counted = complete .0;
+      whole = omega (arith, complete .1, f .total);
+    }
+
+-- the record's pieces and slots, from its row
+pub cells-are : (b : List ℕ) (at : ℕ) → recIn b at .cells ≡ readCells b (getD b (recOff (placeAt b at) + firstCellAt) 0)
+unfolding recOf
+cells-are b at = ap (readCells b) (getD-part b (recOff (placeAt b at)) recBytes firstCellAt (omega arith))
+
+pub slots-are : (b : List ℕ) (at : ℕ) → recIn b at .slots ≡ getD b (recOff (placeAt b at) + slotsAt) 0
+unfolding recOf
+slots-are b at = getD-part b (recOff (placeAt b at)) recBytes slotsAt (omega arith)
+
+-- its state and its timed-out mark
+pub state-is : (b : List ℕ) (at : ℕ) → recIn b at .sending .state ≡ getD b (recOff (placeAt b at) + stateAt) 0
+unfolding recOf
+state-is b at = getD-part b (recOff (placeAt b at)) recBytes stateAt (omega arith)
+
+pub timed-out-is : (b : List ℕ) (at : ℕ) → recIn b at .sending .timedOut ≡ getD b (recOff (placeAt b at) + timedOutAt) 0
+unfolding recOf
+timed-out-is b at = getD-part b (recOff (placeAt b at)) recBytes timedOutAt (omega arith)
+
+-- the record's link to its first piece
+pub first-is : (b : List ℕ) → Bytes b → (at : ℕ) → HeldAt roleSend b at → getD b (recOff (placeAt b at) + firstCellAt) 0 ≡ first (map cellPlace (recIn b at .cells))
+unfolding recOf
+first-is b y at h =
+    let q = here-split roleSend b y at h in
+    first-piece roleSend (decode b) (valid roleSend b y (h .sound)) (q .before) (recIn b at) (q .behind) (q .is) b (rep roleSend b y (h .sound))

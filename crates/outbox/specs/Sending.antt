@@ -1,0 +1,70 @@
+-- What is sent of the pieces of a record, on bytes.
+use Prim.Native.Nat.{ℕ, _+_, _*_, _≤_}
+use mathlib.Core.Path.{_≡_}
+use mathlib.Core.Bool.{cond}
+use mathlib.Core.List.{List, [], map}
+use lib.ListN.{length, getD}
+use Rattle.octets.specs.Octets.{part, put}
+use Rattle.packet.specs.Outgoing.{entry, chunkPacket}
+use Rattle.machine.specs.Limits.{cutBy}
+use Rattle.machine.specs.Codes.{pieceSent}
+use Rattle.machine.specs.Values.{Cell, Rec}
+use Rattle.machine.specs.Layout.{countAt, idAt, idWidth, addressWidth, recOff, readCell, encode, decode}
+use Rattle.machine.specs.Send.{withCells, change, due, stamped, dueOut}
+use Rattle.links.specs.Links.{Links}
+use Rattle.store.specs.HeldAt.{keyIn}
+use Rattle.cells.specs.InPlace.{remarked}
+
+-- a record's id, source and destination, as they stand in its row one behind the other
+abbrev pub namesWidth : ℕ
+namesWidth = idWidth + addressWidth + addressWidth
+
+abbrev pub namesIn : List ℕ → ℕ → List ℕ
+namesIn b k = part b (recOff k + idAt) namesWidth
+
+-- an entry of a run between them: from the source to the destination
+abbrev pub entryOf : List ℕ → List ℕ → List ℕ
+entryOf names packet = entry (part names idWidth addressWidth) (part names (idWidth + addressWidth) addressWidth) packet
+
+abbrev pub idOf : List ℕ → List ℕ
+idOf names = part names 0 idWidth
+
+-- a chunk: its offset is 1,300 times its index
+unfoldable pub chunkOf : List ℕ → Cell → List ℕ
+chunkOf names c = entryOf names (chunkPacket (idOf names) (c .index) (cutBy * c .index) (c .bytes))
+
+-- what a piece puts into the run, and what becomes of the bytes of the store with the piece in the cell at place k
+abbrev pub pieceOut : ℕ → List ℕ → Cell → List ℕ
+pieceOut clock names c = cond (due clock c) (chunkOf names c) []
+
+abbrev pub stampedIn : ℕ → List ℕ → ℕ → List ℕ
+stampedIn clock b k = cond (due clock (readCell b k)) (remarked b k clock pieceSent) b
+
+-- ---- what is asked and given
+
+-- a cell of bytes with links in range, and room for its piece as a chunk
+pub record Turn (b names : List ℕ) (k at room : ℕ) : Type 0 where
+  pub links : Links b
+  pub some : 1 ≤ k
+  pub most : k ≤ getD b countAt 0
+  pub named : length names ≡ namesWidth
+  pub fits : at + 70 + length (readCell b k .bytes) ≤ room
+
+-- the piece of the cell at place k was sent if it was due: the run goes on at r
+pub record Sends (clock : ℕ) (names : List ℕ) (k at : ℕ) (b run : List ℕ) (r : ℕ) (b′ run′ : List ℕ) : Type 0 where
+  pub ends : r ≡ at + length (pieceOut clock names (readCell b k))
+  pub store : b′ ≡ stampedIn clock b k
+  pub out : run′ ≡ put run at (pieceOut clock names (readCell b k))
+
+-- the record that the link at byte `at` leads to, changed by f, was woken: `sent` stands at the start of the run, which goes on at r
+pub record Wakes (f : Rec → Rec) (sent : List ℕ) (b : List ℕ) (at : ℕ) (run : List ℕ) (r : ℕ) (b′ run′ : List ℕ) : Type 0 where
+  pub ends : r ≡ length sent
+  pub store : b′ ≡ encode (change f (keyIn b at) (decode b))
+  pub out : run′ ≡ put run 0 sent
+
+-- the record with its due pieces stamped, and their chunks
+abbrev pub stampedDue : ℕ → Rec → Rec
+stampedDue clock r = withCells (map (stamped clock) (r .cells)) r
+
+abbrev pub dueOf : ℕ → Rec → List ℕ
+dueOf clock r = dueOut clock (r .head) (r .cells)

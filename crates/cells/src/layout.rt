@@ -32,6 +32,9 @@ pub const CUT_BY: usize = rows::message::CUT as usize;
 // The most bytes that a piece has.
 pub const LARGEST_PIECE: usize = rows::cell::LARGEST;
 
+// The most bytes that a message has.
+pub const LONGEST: usize = rows::message::LONGEST as usize;
+
 // One step more than there are places: a walk on sound bytes has ended before.
 pub const MOST_STEPS: usize = rows::cell::MOST + 1;
 

@@ -2,6 +2,7 @@
 // `at` is the byte where the link to the record stands.
 use crate::insert::holds;
 use crate::layout::FIRST_CELL_AT;
+use crate::layout::LONGEST;
 use crate::layout::record_at;
 use crate::walk::cells;
 use crate::walk::count;
@@ -14,6 +15,8 @@ ghost use mathlib.Core.List.{map};
 ghost use Prim.Native.Nat.{ℕ, _≤_};
 ghost use lib.ListN.{length, getD};
 ghost use Rattle.octets.specs.Octets.{put};
+ghost use Rattle.blake3.specs.Tree.{blake3};
+ghost use Rattle.machine.specs.Limits.{longest};
 ghost use Rattle.machine.specs.Counting.{occurs};
 ghost use Rattle.machine.specs.Layout.{countAt};
 ghost use Rattle.machine.specs.Find.{isSome};
@@ -77,4 +80,14 @@ pub fn join_pieces(store: &[u8], at: usize, out: &mut [u8]) -> usize
     ensures { λ r. ⌜ (r ≡ sizes (recIn (now (store .entry)) at .cells)) × (now (out .exit) ≡ put (now (out .entry)) 0 (joined (recIn (now (store .entry)) at .cells))) ⌝ }
 {
     join(store, first_cell(store, at), out)
+}
+
+// The sum of the pieces of the record, joined.
+pub fn sum_pieces(store: &[u8], at: usize) -> [u8; 32]
+    requires { ⌜ ((role : ℕ) × HeldAt role (now store) at) × (sizes (recIn (now store) at .cells) ≤ longest) ⌝ }
+    ensures { λ r. ⌜ r ≡ blake3 (joined (recIn (now (store .entry)) at .cells)) ⌝ }
+{
+    let mut message = [0u8; LONGEST];
+    let n = join_pieces(store, at, &mut message);
+    blake3::hash(&message[0..n])
 }

@@ -1,4 +1,7 @@
 pub mod Inits
 pub mod Starts
+pub mod Chunks
+pub mod Dones
+pub mod Aborts
 pub mod Takes
 pub mod Taken

@@ -26,9 +26,7 @@ fn has_sum(recv: &[u8], at: usize, sum: &[u8]) -> bool
     requires { ⌜ HeldAt roleReceive (now recv) at × (sizes (recIn (now recv) at .cells) ≤ longest) ⌝ }
     ensures { λ r. ⌜ r ≡ same (now (sum .entry)) (blake3 (joined (recIn (now (recv .entry)) at .cells))) ⌝ }
 {
-    let mut whole = [0u8; 32500];
-    let n = cells::pieces::join_pieces(recv, at, &mut whole);
-    let own = blake3::hash(&whole[..n]);
+    let own = cells::pieces::sum_pieces(recv, at);
     octets::equal(sum, &own)
 }
 
@@ -65,7 +63,13 @@ pub fn done(recv: &mut [u8], frame: &[u8], known: u64) -> u64
     ensures { λ r. ⌜ record { number = r; store = now (recv .exit) } ≡ stepped (refusal (doneRow (doneCount (now (frame .entry))) (doneSum (now (frame .entry))) (yes known) (found (idOf (now (frame .entry))) (decode (now (recv .entry)) .held)))) (doneStep (idOf (now (frame .entry))) (decode (now (recv .entry)))) (now (recv .entry)) ⌝ }
 {
     let at = find::find_held(recv, header::id(frame));
-    let number = refusal(recv, at, MessageDone::count(frame), MessageDone::sum(frame), known);
+    let number = refusal(
+        recv,
+        at,
+        MessageDone::count(frame),
+        MessageDone::sum(frame),
+        known,
+    );
     if number != answer::DONE {
         return number;
     }

@@ -1,0 +1,26 @@
+-- Assumes nothing.
+use mathlib.Core.Path.{sym, _∙_}
+use Rattle.machine.specs.Codes.{roleReceive}
+use Rattle.machine.specs.Layout.{decode}
+use Rattle.store.specs.HeldAt.{recIn}
+use Rattle.inbox.proofs.Chunks.{own-cell, new-cell}
+use borrow.Author.Needs.{needs}
+use Rattle.inbox.proofs.chunk.has_cell.Statement.{statement}
+use Rattle.inbox.proofs.chunk.has_cell.Tie as tie
+
+has-piece-requires : tie.Need-has-piece-requires
+has-piece-requires c κs = (roleReceive, c .before .pre)
+
+returns : tie.Need-returns
+returns c = own-cell (c .before .before .before .args .index) (recIn (c .before .before .before .args .recv .now) (c .before .before .before .args .at)) (decode (c .before .before .before .args .recv .now) .freeCells) (sym (c .before .has-piece .ensures) ∙ c .if1 .taken)
+
+is-free-cell-requires : tie.Need-is-free-cell-requires
+is-free-cell-requires c κs = record { role = roleReceive; is = c .before .before .before .pre .sound }
+
+returns-2 : tie.Need-returns-2
+returns-2 c = c .is-free-cell .ensures ∙ new-cell (c .before .before .before .before .args .index) (recIn (c .before .before .before .before .args .recv .now) (c .before .before .before .before .args .at)) (decode (c .before .before .before .before .args .recv .now) .freeCells) (sym (c .before .before .has-piece .ensures) ∙ c .before .if1 .left)
+
+pub has-cell-spec : {M : Type 1} → statement M
+has-cell-spec =
+    tie.close
+    (tie.spec has-piece-requires returns is-free-cell-requires returns-2)

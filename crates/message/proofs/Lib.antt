@@ -1,2 +1,4 @@
 pub mod Setups
 pub mod Takes
+pub mod Steps
+pub mod Packets

@@ -3,6 +3,8 @@
 
 mod fresh;
 mod receive;
+mod step;
 
 pub use fresh::setup;
+pub use receive::packet;
 pub use receive::take;

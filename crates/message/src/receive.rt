@@ -1,9 +1,58 @@
-// Take: the oldest whole message leaves the receive store.
+// What arrives: packets, and the messages that are whole.
 
+use crate::step;
 use answer::Answer;
+use packet::run;
 use rows::head;
 ghost use mathlib.Core.Path.{_≡_};
-ghost use Rattle.machine.specs.Calls.{takeOf};
+ghost use Rattle.machine.specs.Calls.{packetOf, takeOf};
+
+// The bytes of a frame.
+const FRAME: usize = 1400;
+
+// What the longest reply takes in a run.
+const REPLY_ROOM: usize = run::PACKET + step::DONE_REPLY;
+
+// A packet that came in: `known` tells whether the host knows the key of the record's source, `rules` is the rule book, and the reply goes into `run`.
+pub fn packet(
+    recv: &mut [u8],
+    send: &mut [u8],
+    frame: &[u8],
+    from: &[u8; 16],
+    to: &[u8; 16],
+    rules: &[u8],
+    known: u64,
+    run: &mut [u8],
+) -> Answer
+    ensures { λ r. ⌜ record { number = r .number; run = r .run; wake = r .wake; recv = now (recv .exit); send = now (send .exit); out = now (run .exit) } ≡ packetOf (now (recv .entry)) (now (send .entry)) (now (frame .entry)) (now (from .entry)) (now (to .entry)) (now (rules .entry)) known (now (run .entry)) ⌝ }
+{
+    if !soundness::store::sound(recv, head::RECEIVE) {
+        return answer::refuse(answer::UNSOUND_STORE);
+    }
+    if !soundness::store::sound(send, head::SEND) {
+        return answer::refuse(answer::UNSOUND_STORE);
+    }
+    if frame.len() != FRAME {
+        return answer::refuse(answer::BAD_FRAME);
+    }
+    if !step::has_kind(frame) {
+        return answer::refuse(answer::NO_WORK);
+    }
+    if run.len() < REPLY_ROOM {
+        return answer::refuse(answer::SHORT_OUTPUT);
+    }
+    let number = step::step(recv, send, frame, from, to, rules, known);
+    if number != answer::DONE {
+        return answer::refuse(number);
+    }
+    let wake = step::wake_mark(frame);
+    let length = step::reply(frame, from, to, run);
+    Answer {
+        number: answer::DONE,
+        run: length as u64,
+        wake: wake,
+    }
+}
 
 // The oldest whole message: its record and its data go into `taken`, its read packet into `run`, and its record is dropped.
 pub fn take(recv: &mut [u8], taken: &mut [u8], run: &mut [u8]) -> Answer

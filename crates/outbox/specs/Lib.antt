@@ -6,3 +6,4 @@ pub mod Room
 pub mod Partly
 pub mod Acked
 pub mod Woken
+pub mod Late

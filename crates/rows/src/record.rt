@@ -55,7 +55,15 @@ pub const WHOLE: u64 = 2;
 
 pub const LEAVING: u64 = 3;
 
-// The highest state of a sender.
+// The states of a sender, the highest last.
+pub const INIT: u8 = 0;
+
+pub const IN_PROGRESS: u8 = 1;
+
+pub const RECEIVED: u8 = 2;
+
+pub const READ: u8 = 3;
+
 pub const ABORTED: u8 = 4;
 
 // Whether what only a sender keeps is in range, and zero where there is no sender.

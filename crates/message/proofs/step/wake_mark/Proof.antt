@@ -1,0 +1,47 @@
+-- Assumes nothing.
+use mathlib.Core.Path.{sym, ap, _∙_}
+use Rattle.machine.specs.Calls.{kindWake}
+use borrow.Author.Needs.{needs}
+use Rattle.message.proofs.step.wake_mark.Statement.{statement}
+use Rattle.message.proofs.step.wake_mark.Tie as tie
+
+returns : tie.Need-returns
+unfolding kindWake
+returns c = ap kindWake (sym (c .enum-told .given .1) ∙ c .before .before .kind-in .ensures)
+
+returns-2 : tie.Need-returns-2
+unfolding kindWake
+returns-2 c = ap kindWake (sym (c .enum-told2 .given .1) ∙ c .before .before .kind-in .ensures)
+
+returns-3 : tie.Need-returns-3
+unfolding kindWake
+returns-3 c = ap kindWake (sym (c .enum-told3 .given .1) ∙ c .before .before .kind-in .ensures)
+
+returns-4 : tie.Need-returns-4
+unfolding kindWake
+returns-4 c = ap kindWake (sym (c .enum-told4 .given .1) ∙ c .before .before .kind-in .ensures)
+
+returns-5 : tie.Need-returns-5
+unfolding kindWake
+returns-5 c = ap kindWake (sym (c .enum-told5 .given .1) ∙ c .before .before .kind-in .ensures)
+
+returns-6 : tie.Need-returns-6
+unfolding kindWake
+returns-6 c = ap kindWake (sym (c .enum-told6 .given .1) ∙ c .before .before .kind-in .ensures)
+
+returns-7 : tie.Need-returns-7
+unfolding kindWake
+returns-7 c = ap kindWake (sym (c .enum-told7 .given .1) ∙ c .before .before .kind-in .ensures)
+
+returns-8 : tie.Need-returns-8
+unfolding kindWake
+returns-8 c = ap kindWake (sym (c .enum-told8 .given .1) ∙ c .before .before .kind-in .ensures)
+
+returns-9 : tie.Need-returns-9
+unfolding kindWake
+returns-9 c = ap kindWake (sym (c .enum-told9 .given .1) ∙ c .before .before .kind-in .ensures)
+
+pub wake-mark-spec : {M : Type 1} → statement M
+wake-mark-spec =
+    tie.close
+    (tie.spec (λ c κs. search needs) (λ c. search needs) (λ c. search needs) (λ c. search needs) (λ c. search needs) (λ c. search needs) (λ c. search needs) (λ c. search needs) (λ c. search needs) (λ c. search needs) returns returns-2 returns-3 returns-4 returns-5 returns-6 returns-7 returns-8 returns-9)

@@ -1,0 +1,45 @@
+-- What a packet's kind does to both stores, and its reply, apart from the refusals that stand before it.
+use Prim.Native.Nat.{ℕ}
+use mathlib.Core.Bool.{cond}
+use mathlib.Core.List.{List, []}
+use lib.Dec.{eqb}
+use Rattle.packet.specs.declared.header.Kind.{Kind}
+use Rattle.packet.specs.declared.header.Kind.the-variants.{Init, Chunk, Done, Read, Aborted, AckInit, AckChunk, AckDone, Nothing}
+use Rattle.packet.specs.Outgoing.{initReply, chunkReply, doneReply}
+use Rattle.machine.specs.Layout.{encode, decode}
+use Rattle.machine.specs.Refusals.{refusal}
+use Rattle.machine.specs.Calls.{Packet, kind, kindRow, recvStep, sendStep, kindOut}
+use Rattle.inbox.specs.Arrives.{arrival}
+
+-- a number, and both stores
+pub record Both : Type 0 where
+  pub number : ℕ
+  pub recv : List ℕ
+  pub send : List ℕ
+
+-- what the steps of a kind leave
+abbrev pub bothOf : Kind → Packet → List ℕ → List ℕ → Both
+bothOf k p recv send = record {
+  number = refusal (kindRow k p (decode recv) (decode send));
+  recv = cond (eqb (refusal (kindRow k p (decode recv) (decode send))) 0) (encode (recvStep k p (decode recv))) recv;
+  send = cond (eqb (refusal (kindRow k p (decode recv) (decode send))) 0) (encode (sendStep k p (decode send))) send;
+}
+
+abbrev pub both : Packet → List ℕ → List ℕ → Both
+both p recv send = bothOf (kind p) p recv send
+
+-- the bytes of the frame that the reply to a kind keeps
+abbrev pub replyBytes : Kind → ℕ
+replyBytes Init = initReply
+replyBytes Chunk = chunkReply
+replyBytes Done = doneReply
+replyBytes Read = 0
+replyBytes Aborted = 0
+replyBytes AckInit = 0
+replyBytes AckChunk = 0
+replyBytes AckDone = 0
+replyBytes Nothing = 0
+
+-- the reply to a packet
+abbrev pub replyOut : List ℕ → List ℕ → List ℕ → List ℕ
+replyOut frame from to = kindOut (kind (arrival frame from to [] 0)) (arrival frame from to [] 0)

@@ -1,0 +1,85 @@
+-- The ways of a deadline wake. Assumes nothing.
+use Prim.Native.Nat.{ℕ, _+_, _≤_}
+use native.Mathlib.Omega.{arith}
+use mathlib.Core.Path.{_≡_, refl, sym, ap, _∙_}
+use mathlib.Core.Bool.{Bool, true, false, cond, _||_}
+use mathlib.Core.List.{List, []}
+use mathlib.Core.Option.{Option, some}
+use lib.ListN.{length}
+use lib.Dec.{eqb}
+use Rattle.octets.specs.Octets.{put, Bytes}
+use Rattle.octets.specs.Parts.{put-nil}
+use Rattle.packet.specs.Outgoing.{entry, header, abortedPacket}
+use Rattle.packet.specs.Lengths.{length-entry, length-header}
+use Rattle.machine.specs.Codes.{roleSend, stateInit, stateInProgress}
+use Rattle.machine.specs.Values.{Head, Sending, Rec}
+use Rattle.machine.specs.Layout.{idWidth, addressWidth, headOf, sendingOf, encode, decode}
+use Rattle.machine.specs.Sound.{HeadSized}
+use Rattle.machine.specs.Receive.{dropAt, dropStep}
+use Rattle.machine.specs.Send.{unsettled, timedOut, abortedOut, deadlineOut, change, deadlineAt}
+use Rattle.store.specs.HeldAt.{rowIn, recIn, keyIn, HeldAt}
+use Rattle.store.specs.Met.{rec-head, rec-sending, held-here, here-sized}
+use Rattle.outbox.specs.Late.{abortedOf}
+use Rattle.outbox.specs.Partly.{change-is}
+
+module _ (b : List ℕ) (at : ℕ) where
+  abbrev r : Rec
+  r = recIn b at
+
+  head : headOf (rowIn b at) ≡ r .head
+  head = sym (rec-head b at)
+
+  -- its names, as they are read, have their widths
+  pub names-long : HeadSized (r .head)
+      → (length (headOf (rowIn b at) .source) ≡ addressWidth) × (length (headOf (rowIn b at) .destination) ≡ addressWidth) × (length (headOf (rowIn b at) .id) ≡ idWidth)
+  names-long z = (
+    ap (λ (h : Head). length (h .source)) head ∙ z .source .0,
+    ap (λ (h : Head). length (h .destination)) head ∙ z .destination .0,
+    ap (λ (h : Head). length (h .id)) head ∙ z .id .0,
+  )
+
+  -- ---- the aborted packet
+
+  module _ (s : ℕ) (is : s ≡ sendingOf (rowIn b at) .state) where
+    settled-is : (eqb s stateInit || eqb s stateInProgress) ≡ unsettled r
+    settled-is = ap (λ (x : ℕ). eqb x stateInit || eqb x stateInProgress) (is ∙ sym (ap (λ (x : Sending). x .state) (rec-sending b at)))
+
+    pub aborted-none : (eqb s stateInit || eqb s stateInProgress) ≡ false → (run : List ℕ) → (0 ≡ length (abortedOf r)) × (run ≡ put run 0 (abortedOf r))
+    aborted-none e run =
+        let q : abortedOf r ≡ [] = rw (sym settled-is ∙ e) in
+        (ap length (sym q), sym (ap (put run 0) q ∙ put-nil run 0))
+
+    pub aborted-put : HeadSized (r .head) → (eqb s stateInit || eqb s stateInProgress) ≡ true → (run out from to id : List ℕ) → from ≡ headOf (rowIn b at) .source
+        → to ≡ headOf (rowIn b at) .destination → id ≡ headOf (rowIn b at) .id → out ≡ put run 0 (entry from to (header id 32))
+        → (34 + 12 ≡ length (abortedOf r)) × (out ≡ put run 0 (abortedOf r))
+    aborted-put z e run out from to id f t i w =
+        let q : abortedOf r ≡ abortedOut (r .head) = rw (sym settled-is ∙ e) in
+        let h : Head = r .head in
+        let n : length (abortedOut h) ≡ 34 + 12 =
+        length-entry (h .source) (h .destination) (abortedPacket (h .id)) (z .source .0) (z .destination .0) ∙ ap (λ (k : ℕ). 34 + k) (length-header (h .id) 32 (z .id .0)) in (
+          sym (ap length q ∙ n),
+          w
+              ∙ (λ j. put run 0 (entry ((f ∙ ap (λ (x : Head). x .source) head) j) ((t ∙ ap (λ (x : Head). x .destination) head) j) (header ((i ∙ ap (λ (x : Head). x .id) head) j) 32)))
+              ∙ ap (put run 0) (sym q),
+        )
+
+-- ---- the first wake, and the second
+
+module _ (b : List ℕ) (y : Bytes b) (at : ℕ) (h : HeldAt roleSend b at) (late : Bool) (is : late ≡ eqb (sendingOf (rowIn b at) .timedOut) 1) where
+  late-is : late ≡ eqb (recIn b at .sending .timedOut) 1
+  late-is = is ∙ sym (ap (λ (x : Sending). eqb (x .timedOut) 1) (rec-sending b at))
+
+  pub deadline-dropped : (run b′ : List ℕ) → late ≡ true → b′ ≡ encode (dropStep (keyIn b at) (decode b))
+      → (0 ≡ length (deadlineOut (recIn b at))) × (b′ ≡ encode (deadlineAt (some (recIn b at)) (decode b))) × (run ≡ put run 0 (deadlineOut (recIn b at)))
+  unfolding deadlineOut deadlineAt
+  deadline-dropped run b′ e w =
+      let q : eqb (recIn b at .sending .timedOut) 1 ≡ true = sym late-is ∙ e in
+      (rw q, rw q (w ∙ ap (λ (o : Option Rec). encode (dropAt o (decode b))) (held-here roleSend b y at h)), rw q (sym (put-nil run 0)))
+
+  pub deadline-marked : (run out b′ : List ℕ) (n : ℕ) → late ≡ false → n ≡ length (abortedOf (recIn b at)) → out ≡ put run 0 (abortedOf (recIn b at))
+      → b′ ≡ encode (change timedOut (keyIn b at) (decode b))
+      → (n ≡ length (deadlineOut (recIn b at))) × (b′ ≡ encode (deadlineAt (some (recIn b at)) (decode b))) × (out ≡ put run 0 (deadlineOut (recIn b at)))
+  unfolding deadlineOut deadlineAt
+  deadline-marked run out b′ n e l o w =
+      let q : eqb (recIn b at .sending .timedOut) 1 ≡ false = sym late-is ∙ e in
+      (rw q l, rw q (w ∙ ap encode (change-is b y at h timedOut)), rw q o)

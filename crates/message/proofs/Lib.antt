@@ -2,3 +2,4 @@ pub mod Setups
 pub mod Takes
 pub mod Steps
 pub mod Packets
+pub mod Reports

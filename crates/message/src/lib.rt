@@ -3,8 +3,10 @@
 
 mod fresh;
 mod receive;
+mod send;
 mod step;
 
 pub use fresh::setup;
 pub use receive::packet;
 pub use receive::take;
+pub use send::report;

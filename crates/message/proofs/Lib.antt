@@ -3,3 +3,4 @@ pub mod Takes
 pub mod Steps
 pub mod Packets
 pub mod Reports
+pub mod Sends

@@ -9,4 +9,6 @@ mod step;
 pub use fresh::setup;
 pub use receive::packet;
 pub use receive::take;
+pub use send::push;
 pub use send::report;
+pub use send::wake;

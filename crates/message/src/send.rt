@@ -3,7 +3,49 @@
 use answer::Answer;
 use rows::head;
 ghost use mathlib.Core.Path.{_≡_};
-ghost use Rattle.machine.specs.Calls.{reportOf};
+ghost use Rattle.machine.specs.Calls.{pushOf, wakeOf, reportOf};
+
+// A message to be sent: its init goes into `run`. Times are in milliseconds.
+pub fn push(
+    send: &mut [u8],
+    id: &[u8; 8],
+    reply: u64,
+    from: &[u8; 16],
+    to: &[u8; 16],
+    topic: &[u8],
+    bytes: &[u8],
+    created: u64,
+    try_ms: u64,
+    run: &mut [u8],
+) -> Answer
+    ensures { λ r. ⌜ record { number = r .number; run = r .run; wake = r .wake; send = now (send .exit); out = now (run .exit) } ≡ pushOf (now (send .entry)) (now (id .entry)) reply (now (from .entry)) (now (to .entry)) (now (topic .entry)) (now (bytes .entry)) created «try_ms» (now (run .entry)) ⌝ }
+{
+    if !soundness::store::sound(send, head::SEND) {
+        return answer::refuse(answer::UNSOUND_STORE);
+    }
+    outbox::push::push(
+        send,
+        id,
+        reply,
+        from,
+        to,
+        topic,
+        bytes,
+        created,
+        try_ms,
+        run,
+    )
+}
+
+// A wake of the message with that id: kind 1 sends what is due, kind 2 lets the deadline pass. The clock is in milliseconds.
+pub fn wake(send: &mut [u8], kind: u64, id: &[u8; 8], clock: u64, run: &mut [u8]) -> Answer
+    ensures { λ r. ⌜ record { number = r .number; run = r .run; wake = r .wake; send = now (send .exit); out = now (run .exit) } ≡ wakeOf (now (send .entry)) kind (now (id .entry)) clock (now (run .entry)) ⌝ }
+{
+    if !soundness::store::sound(send, head::SEND) {
+        return answer::refuse(answer::UNSOUND_STORE);
+    }
+    outbox::wake::wake(send, kind, id, clock, run)
+}
 
 // The report on the message with that id, into `out`.
 pub fn report(send: &[u8], id: &[u8; 8], out: &mut [u8]) -> Answer

@@ -7,3 +7,5 @@ pub mod Partly
 pub mod Acked
 pub mod Woken
 pub mod Late
+pub mod Pushing
+pub mod Pushed

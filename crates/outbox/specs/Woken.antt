@@ -40,10 +40,12 @@ module _ (b : List ℕ) (y : Bytes b) (at : ℕ) (h : HeldAt roleSend b at) (clo
 
   -- ---- in progress
 
-  pub progress-done : (n : ℕ) (out : List ℕ) → allAcked (r .cells) ≡ true → n ≡ length (doneOut r) → out ≡ put run 0 (doneOut r)
-      → Wakes (stampedDue clock) (progressOut clock r) b at run n b out
-  progress-done n out a l o =
-      one-packet (stampedDue clock) (progressOut clock r) (doneOut r) n out (ap (λ (x : List Cell). withCells x r) (acked-kept clock (r .cells) a)) (rw (a, acked-out clock (r .head) (r .cells) a)) l o
+  pub progress-done : (n : ℕ) (b′ out : List ℕ) → allAcked (r .cells) ≡ true → n ≡ length (doneOut r) → b′ ≡ b → out ≡ put run 0 (doneOut r)
+      → Wakes (stampedDue clock) (progressOut clock r) b at run n b′ out
+  progress-done n b′ out a l e o =
+      let w = one-packet (stampedDue clock) (progressOut clock r) (doneOut r) n out (ap (λ (x : List Cell). withCells x r) (acked-kept clock (r .cells) a))
+      (rw (a, acked-out clock (r .head) (r .cells) a)) l o in
+      record { ends = w .ends; store = e ∙ w .store; out = w .out }
 
   pub progress-due : (n : ℕ) (b′ out : List ℕ) → allAcked (r .cells) ≡ false → Wakes (stampedDue clock) (dueOf clock r) b at run n b′ out
       → Wakes (stampedDue clock) (progressOut clock r) b at run n b′ out

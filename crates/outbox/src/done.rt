@@ -48,7 +48,7 @@ pub fn sum(store: &[u8], first: usize) -> [u8; 32]
 }
 
 // The done of the record, as the run's one entry; answers where it ends.
-pub fn put_done(store: &[u8], link: usize, out: &mut [u8]) -> usize
+fn put_done(store: &[u8], link: usize, out: &mut [u8]) -> usize
     requires { ⌜ Here (now store) link × (sendRoom ≤ length (now out)) ⌝ }
     ensures { λ r. ⌜ (r ≡ length (doneOut (recIn (now (store .entry)) link))) × (now (out .exit) ≡ put (now (out .entry)) 0 (doneOut (recIn (now (store .entry)) link))) ⌝ }
 {
@@ -69,4 +69,12 @@ pub fn put_done(store: &[u8], link: usize, out: &mut [u8]) -> usize
         &sum,
     );
     run::PACKET + MessageDone::SUM + MessageDone::SUM_SIZE
+}
+
+// The done is sent. The record stays as it is: its state changes when the done is acknowledged.
+pub fn send_done(store: &mut [u8], link: usize, out: &mut [u8]) -> usize
+    requires { ⌜ Here (now store) link × (sendRoom ≤ length (now out)) ⌝ }
+    ensures { λ r. ⌜ (r ≡ length (doneOut (recIn (now (store .entry)) link))) × (now (store .exit) ≡ now (store .entry)) × (now (out .exit) ≡ put (now (out .entry)) 0 (doneOut (recIn (now (store .entry)) link))) ⌝ }
+{
+    put_done(store, link, out)
 }

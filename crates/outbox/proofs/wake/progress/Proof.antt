@@ -16,15 +16,16 @@ found c = here _ (bytes c) _ (c .before .pre .0)
 all-acked-requires : tie.Need-all-acked-requires
 all-acked-requires c κs = found (c .before .before)
 
-put-done-requires : tie.Need-put-done-requires
-put-done-requires c κs = let known = c .before .before .before .before .before .before in (found known, known .before .pre .1)
+send-done-requires : tie.Need-send-done-requires
+send-done-requires c κs = let known = c .before .before .before .before .before .before in (found known, known .before .pre .1)
 
 returns : tie.Need-returns
 returns c =
-    let taken = c .before .before .before .before .before in
+    let send = c .before .before .before .before in
+    let taken = send .before .before .before in
     let known = taken .before .before .before .before in
-    let put = c .before .before .put-done .ensures in
-    progress-done _ (bytes known) _ (known .before .pre .0) _ _ _ _ (sym (taken .before .all-acked .ensures) ∙ taken .if1 .taken) (put .0) (put .1)
+    let put = send .send-done .ensures in
+    progress-done _ (bytes known) _ (known .before .pre .0) _ _ _ _ _ (sym (taken .before .all-acked .ensures) ∙ taken .if1 .taken) (put .0) (put .1) (put .2)
 
 names-at-requires : tie.Need-names-at-requires
 names-at-requires c κs = found (c .before .before .before .before .before)
@@ -45,4 +46,4 @@ returns-2 c =
 pub progress-spec : {M : Type 1} → statement M
 progress-spec =
     tie.close
-    (tie.spec all-acked-requires put-done-requires (λ c. search needs) (λ c. search needs) returns names-at-requires (λ c. search needs) send-due-requires (λ c. search needs) (λ c. search needs) returns-2)
+    (tie.spec all-acked-requires send-done-requires (λ c. search needs) (λ c. search needs) returns names-at-requires (λ c. search needs) send-due-requires (λ c. search needs) (λ c. search needs) returns-2)

@@ -1,0 +1,21 @@
+-- Assumes nothing.
+use mathlib.Core.Path.{sym, _∙_}
+use borrow.Author.Tests.{not-true, not-false}
+use Rattle.message.proofs.Sends.{wake-unsound, wake-sound}
+use borrow.Author.Needs.{needs}
+use Rattle.message.proofs.send.wake.Statement.{statement}
+use Rattle.message.proofs.send.wake.Tie as tie
+
+returns : tie.Need-returns
+returns c = let a = c .refuse .ensures in wake-unsound _ _ _ _ _ _ _ _ (sym (c .before .before .sound .ensures) ∙ not-true _ (c .before .if1 .taken)) (a .0) (a .1) (a .2)
+
+wake-requires : tie.Need-wake-requires
+wake-requires c κs = sym (c .before .before .before .before .sound .ensures) ∙ not-false _ (c .before .before .before .if1 .left)
+
+returns-2 : tie.Need-returns-2
+returns-2 c = c .before .before .before .before .wake .ensures ∙ wake-sound _ _ _ _ _ (sym (c .before .before .before .before .before .before .before .before .before .sound .ensures) ∙ not-false _ (c .before .before .before .before .before .before .before .before .if1 .left))
+
+pub wake-spec : {M : Type 1} → statement M
+wake-spec =
+    tie.close
+    (tie.spec (λ c κs. search needs) (λ c κs. search needs) (λ c. search needs) returns wake-requires (λ c. search needs) (λ c. search needs) returns-2)

@@ -1,0 +1,42 @@
+-- Assumes nothing.
+use native.Mathlib.Omega.{arith}
+use mathlib.Core.Path.{ap, _∙_}
+use mathlib.Core.List.{List}
+use Prim.Native.Nat.{ℕ}
+use lib.ListN.{length}
+use Rattle.machine.specs.Codes.{roleSend}
+use Rattle.store.specs.Met.{here-reached, here-sized}
+use Rattle.outbox.proofs.Deadlines.{names-long, aborted-none, aborted-put}
+use borrow.Author.Needs.{needs}
+use Rattle.outbox.proofs.deadline.put_aborted.Statement.{statement}
+use Rattle.outbox.proofs.deadline.put_aborted.Tie as tie
+
+state-requires : tie.Need-state-requires
+state-requires c κs = here-reached roleSend _ (λ i. c .before .shared-slice-known .given i .fits) _ (c .before .before .pre .0)
+
+source-requires : tie.Need-source-requires
+source-requires c κs = here-reached roleSend _ (λ i. c .before .before .before .before .shared-slice-known .given i .fits) _ (c .before .before .before .before .before .pre .0)
+
+destination-requires : tie.Need-destination-requires
+destination-requires c κs = here-reached roleSend _ (λ i. c .before .before .before .before .before .shared-slice-known .given i .fits) _ (c .before .before .before .before .before .before .pre .0)
+
+id-requires : tie.Need-id-requires
+id-requires c κs = here-reached roleSend _ (λ i. c .before .before .before .before .before .before .shared-slice-known .given i .fits) _ (c .before .before .before .before .before .before .before .pre .0)
+
+put-header-requires : tie.Need-put-header-requires
+put-header-requires c κs =
+    let z = names-long _ _ (here-sized roleSend _ (λ i. c .before .before .before .before .before .before .before .shared-slice-known .given i .fits) _ (c .before .before .before .before .before .before .before .before .pre .0) .head) in (
+      record { source = ap length (c .before .before .source .ensures) ∙ z .0; target = ap length (c .before .destination .ensures) ∙ z .1; fits = omega (arith, c .before .before .before .before .before .before .before .before .pre .1) },
+      ap length (c .id .ensures) ∙ z .2,
+    )
+
+returns : tie.Need-returns
+returns c = aborted-put _ _ _ (c .before .before .before .before .before .before .before .before .state .ensures) (here-sized roleSend _ (λ i. c .before .before .before .before .before .before .before .before .before .before .shared-slice-known .given i .fits) _ (c .before .before .before .before .before .before .before .before .before .before .before .pre .0) .head) (c .before .before .before .before .before .before .before .if1 .taken) _ _ _ _ _ (c .before .before .before .before .before .source .ensures) (c .before .before .before .before .destination .ensures) (c .before .before .before .id .ensures) (c .before .before .put-header .ensures)
+
+returns-2 : tie.Need-returns-2
+returns-2 c = aborted-none _ _ _ (c .before .state .ensures) (c .if1 .left) _
+
+pub put-aborted-spec : {M : Type 1} → statement M
+put-aborted-spec =
+    tie.close
+    (tie.spec state-requires source-requires destination-requires id-requires put-header-requires (λ c. search needs) (λ c. search needs) returns returns-2)

@@ -1,0 +1,51 @@
+-- Assumes nothing.
+use Prim.Native.Nat.{ℕ, _+_}
+use native.Mathlib.Omega.{arith}
+use mathlib.Core.Path.{sym, _∙_}
+use lib.ListN.{length}
+use Rattle.machine.specs.Values.{Store}
+use Rattle.machine.specs.Layout.{decode}
+use Rattle.machine.specs.Refusals.{refusal}
+use Rattle.machine.specs.Send.{pushStep, initOut}
+use Rattle.machine.specs.Calls.{Push, yes, pushHead}
+use Rattle.outbox.specs.Pushing.{pushed, soundRow}
+use Rattle.outbox.proofs.Sent.{refused-out, sent-out}
+use Rattle.outbox.proofs.Pushes.{push-end, push-room, pushable, init-put, init-long}
+use borrow.Author.Needs.{needs}
+use Rattle.outbox.proofs.push.push.Statement.{statement}
+use Rattle.outbox.proofs.push.push.Tie as tie
+
+-- what is pushed, what the row answers and what the store becomes, at the arguments
+abbrev what : tie.Start → Push
+what s = pushed (s .args .id .now) (s .args .reply) (s .args .from .now) (s .args .to .now) (s .args .topic .now) (s .args .bytes .now) (s .args .created) (s .args .try-ms)
+
+abbrev way : tie.Start → ℕ
+way s = refusal (soundRow (what s) (decode (s .args .send .now)) (length (s .args .run .now)))
+
+abbrev step : tie.Start → Store
+step s = pushStep (pushHead (what s)) (s .args .created) (s .args .created + s .args .try-ms) (s .args .bytes .now) (decode (s .args .send .now))
+
+returns : tie.Need-returns
+returns c = refused-out (way (c .before .before .before .before .before .before .before .before .before .before .before)) (step (c .before .before .before .before .before .before .before .before .before .before .before)) (initOut (pushHead (what (c .before .before .before .before .before .before .before .before .before .before .before)))) _ _ _ _ _ _ (c .before .before .refusal .ensures) (c .before .if1 .taken) (c .refuse .ensures .0) (c .refuse .ensures .1) (c .refuse .ensures .2)
+
+add-hold : tie.Need-add-hold
+add-hold c = omega (arith, push-end (what (c .before .before .before .before .before .before .before .before .before .before .before)) (c .before .before .before .before .before .before .before .before .before .before .before .args .send .now) (length (c .before .before .before .before .before .before .before .before .before .before .before .args .run .now)) (sym (c .before .before .refusal .ensures) ∙ c .before .if1 .left))
+
+hold-requires : tie.Need-hold-requires
+hold-requires c κs = pushable (what (c .before .before .before .before .before .before .before .before .before .before .before)) (c .before .before .before .before .before .before .before .before .before .before .before .args .send .now) (length (c .before .before .before .before .before .before .before .before .before .before .before .args .run .now)) (sym (c .before .before .refusal .ensures) ∙ c .before .if1 .left) (c .before .before .before .before .before .before .before .before .before .before .before .pre .0) (c .before .before .before .before .before .before .before .before .before .before .before .pre .1) (c .before .before .before .before .before .before .before .before .before .before .before .pre .2) (c .before .before .before .before .before .before .before .before .before .before .before .pre .3) (yes (c .before .before .before .before .before .before .before .before .before .before .before .args .reply))
+
+put-init-requires : tie.Need-put-init-requires
+put-init-requires c κs =
+    let m = push-room (what (c .before .before .before .before .before .before .before .before .before .before .before .before .before .before .before)) (c .before .before .before .before .before .before .before .before .before .before .before .before .before .before .before .args .send .now) (length (c .before .before .before .before .before .before .before .before .before .before .before .before .before .before .before .args .run .now)) (sym (c .before .before .before .before .before .before .refusal .ensures) ∙ c .before .before .before .before .before .if1 .left) in
+    (record { source = c .before .before .before .before .before .before .before .before .before .before .before .before .before .before .before .pre .2; target = c .before .before .before .before .before .before .before .before .before .before .before .before .before .before .before .pre .3; fits = omega (arith, m .0, m .1) }, (c .before .before .before .before .before .before .before .before .before .before .before .before .before .before .before .pre .1, omega (arith, m .1)))
+
+add-sent-2 : tie.Need-add-sent-2
+add-sent-2 c = let m = push-room (what (c .before .before .before .before .before .before .before .before .before .before .before .before .before .before .before .before .before .before)) (c .before .before .before .before .before .before .before .before .before .before .before .before .before .before .before .before .before .before .args .send .now) (length (c .before .before .before .before .before .before .before .before .before .before .before .before .before .before .before .before .before .before .args .run .now)) (sym (c .before .before .before .before .before .before .before .before .before .refusal .ensures) ∙ c .before .before .before .before .before .before .before .before .if1 .left) in omega (arith, m .1)
+
+returns-2 : tie.Need-returns-2
+returns-2 c = sent-out (way (c .before .before .before .before .before .before .before .before .before .before .before .before .before .before .before .before .before .before .before)) (step (c .before .before .before .before .before .before .before .before .before .before .before .before .before .before .before .before .before .before .before)) (initOut (pushHead (what (c .before .before .before .before .before .before .before .before .before .before .before .before .before .before .before .before .before .before .before)))) _ _ _ _ _ _ _ (sym (sym (c .before .before .before .before .before .before .before .before .before .before .refusal .ensures) ∙ c .before .before .before .before .before .before .before .before .before .if1 .left)) (c .sent .ensures .0) (c .sent .ensures .1 ∙ init-long (what (c .before .before .before .before .before .before .before .before .before .before .before .before .before .before .before .before .before .before .before)) (c .before .before .before .before .before .before .before .before .before .before .before .before .before .before .before .before .before .before .before .pre .1) (c .before .before .before .before .before .before .before .before .before .before .before .before .before .before .before .before .before .before .before .pre .2) (c .before .before .before .before .before .before .before .before .before .before .before .before .before .before .before .before .before .before .before .pre .3)) (c .sent .ensures .2) (c .before .before .before .before .before .before .before .hold .ensures) (init-put (what (c .before .before .before .before .before .before .before .before .before .before .before .before .before .before .before .before .before .before .before)) _ _ (c .before .before .before .put-init .ensures))
+
+pub push-spec : {M : Type 1} → statement M
+push-spec =
+    tie.close
+    (tie.spec (λ c κs. search needs) (λ c κs. search needs) (λ c. search needs) returns add-hold hold-requires put-init-requires (λ c. search needs) add-sent-2 (λ c κs. search needs) (λ c. search needs) (λ c. search needs) returns-2)

@@ -1,11 +1,10 @@
 -- The ways of a deadline wake. Assumes nothing.
-use Prim.Native.Nat.{ℕ, _+_, _≤_}
-use native.Mathlib.Omega.{arith}
-use mathlib.Core.Path.{_≡_, refl, sym, ap, _∙_}
-use mathlib.Core.Bool.{Bool, true, false, cond, _||_}
+use Prim.Native.Nat.{ℕ, _+_}
+use mathlib.Core.Path.{_≡_, sym, ap, _∙_}
+use mathlib.Core.Bool.{Bool, true, false, _||_}
 use mathlib.Core.List.{List, []}
 use mathlib.Core.Option.{Option, some}
-use lib.ListN.{length}
+use lib.ListN.{length, getD}
 use lib.Dec.{eqb}
 use Rattle.octets.specs.Octets.{put, Bytes}
 use Rattle.octets.specs.Parts.{put-nil}
@@ -13,14 +12,19 @@ use Rattle.packet.specs.Outgoing.{entry, header, abortedPacket}
 use Rattle.packet.specs.Lengths.{length-entry, length-header}
 use Rattle.machine.specs.Codes.{roleSend, stateInit, stateInProgress}
 use Rattle.machine.specs.Values.{Head, Sending, Rec}
-use Rattle.machine.specs.Layout.{idWidth, addressWidth, headOf, sendingOf, encode, decode}
+use Rattle.machine.specs.Layout.{timedOutAt, idWidth, addressWidth, recOff, headOf, sendingOf, encode, decode}
 use Rattle.machine.specs.Sound.{HeadSized}
 use Rattle.machine.specs.Receive.{dropAt, dropStep}
 use Rattle.machine.specs.Send.{unsettled, timedOut, abortedOut, deadlineOut, change, deadlineAt}
-use Rattle.store.specs.HeldAt.{rowIn, recIn, keyIn, HeldAt}
-use Rattle.store.specs.Met.{rec-head, rec-sending, held-here, here-sized}
+use Rattle.store.specs.HeldAt.{placeAt, rowIn, recIn, keyIn, HeldAt}
+use Rattle.store.specs.Met.{rec-head, rec-sending, held-here}
+use Rattle.outbox.specs.Here.{timed-out-is}
 use Rattle.outbox.specs.Late.{abortedOf}
 use Rattle.outbox.specs.Partly.{change-is}
+
+-- the mark that is read in the row is the record's
+pub mark-read : (b : List ℕ) (at row : ℕ) → row ≡ recOff (placeAt b at) → eqb (getD b (row + timedOutAt) 0) 1 ≡ eqb (recIn b at .sending .timedOut) 1
+mark-read b at row e = ap (λ (o : ℕ). eqb (getD b (o + timedOutAt) 0) 1) e ∙ ap (λ (x : ℕ). eqb x 1) (sym (timed-out-is b at))
 
 module _ (b : List ℕ) (at : ℕ) where
   abbrev r : Rec
@@ -65,15 +69,12 @@ module _ (b : List ℕ) (at : ℕ) where
 
 -- ---- the first wake, and the second
 
-module _ (b : List ℕ) (y : Bytes b) (at : ℕ) (h : HeldAt roleSend b at) (late : Bool) (is : late ≡ eqb (sendingOf (rowIn b at) .timedOut) 1) where
-  late-is : late ≡ eqb (recIn b at .sending .timedOut) 1
-  late-is = is ∙ sym (ap (λ (x : Sending). eqb (x .timedOut) 1) (rec-sending b at))
-
+module _ (b : List ℕ) (y : Bytes b) (at : ℕ) (h : HeldAt roleSend b at) (late : Bool) (is : late ≡ eqb (recIn b at .sending .timedOut) 1) where
   pub deadline-dropped : (run b′ : List ℕ) → late ≡ true → b′ ≡ encode (dropStep (keyIn b at) (decode b))
       → (0 ≡ length (deadlineOut (recIn b at))) × (b′ ≡ encode (deadlineAt (some (recIn b at)) (decode b))) × (run ≡ put run 0 (deadlineOut (recIn b at)))
   unfolding deadlineOut deadlineAt
   deadline-dropped run b′ e w =
-      let q : eqb (recIn b at .sending .timedOut) 1 ≡ true = sym late-is ∙ e in
+      let q : eqb (recIn b at .sending .timedOut) 1 ≡ true = sym is ∙ e in
       (rw q, rw q (w ∙ ap (λ (o : Option Rec). encode (dropAt o (decode b))) (held-here roleSend b y at h)), rw q (sym (put-nil run 0)))
 
   pub deadline-marked : (run out b′ : List ℕ) (n : ℕ) → late ≡ false → n ≡ length (abortedOf (recIn b at)) → out ≡ put run 0 (abortedOf (recIn b at))
@@ -81,5 +82,5 @@ module _ (b : List ℕ) (y : Bytes b) (at : ℕ) (h : HeldAt roleSend b at) (lat
       → (n ≡ length (deadlineOut (recIn b at))) × (b′ ≡ encode (deadlineAt (some (recIn b at)) (decode b))) × (out ≡ put run 0 (deadlineOut (recIn b at)))
   unfolding deadlineOut deadlineAt
   deadline-marked run out b′ n e l o w =
-      let q : eqb (recIn b at .sending .timedOut) 1 ≡ false = sym late-is ∙ e in
+      let q : eqb (recIn b at .sending .timedOut) 1 ≡ false = sym is ∙ e in
       (rw q l, rw q (w ∙ ap encode (change-is b y at h timedOut)), rw q o)

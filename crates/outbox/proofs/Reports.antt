@@ -1,20 +1,20 @@
 -- What a report counts and writes, and the ways out of it. Assumes nothing.
-use Prim.Native.Nat.{ℕ, _+_, _/_, _≤_, _<_}
+use Prim.Native.Nat.{ℕ, _/_, _≤_, _<_}
 use native.Mathlib.Omega.{arith}
 use mathlib.Core.Path.{_≡_, refl, sym, ap, _∙_}
-use mathlib.Core.Bool.{Bool, true, false, cond}
-use mathlib.Core.List.{List, [], _∷_, _++_, map}
-use mathlib.Core.Option.{Option, none, some}
+use mathlib.Core.Bool.{Bool, cond}
+use mathlib.Core.List.{List, [], _∷_, map}
+use mathlib.Core.Option.{Option, some}
 use lib.ListN.{length}
-use lib.Dec.{eqb, leb}
+use lib.Dec.{leb}
 use borrow.Author.Tests.{eq-eqb, ne-eqb, le-leb, lt-leb}
 use Rattle.octets.specs.Octets.{put, be}
 use Rattle.octets.specs.Numbers.{length-be}
-use Rattle.octets.specs.Written.{Written, wrote, then}
+use Rattle.octets.specs.Written.{wrote, then}
 use Rattle.machine.specs.Codes.{stateInProgress, pieceStarted, pieceSent, pieceAcked}
-use Rattle.machine.specs.Values.{Head, Sending, Cell, Rec}
+use Rattle.machine.specs.Values.{Head, Sending, Rec}
 use Rattle.machine.specs.Counting.{occurs}
-use Rattle.machine.specs.Layout.{addressWidth, numberWidth, headOf, sendingOf}
+use Rattle.machine.specs.Layout.{addressWidth, headOf, sendingOf}
 use Rattle.machine.specs.Sound.{HeadSized}
 use Rattle.machine.specs.Refusals.{refusal}
 use Rattle.machine.specs.Outcomes.{ReportOutcome}

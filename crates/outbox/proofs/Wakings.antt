@@ -1,9 +1,9 @@
 -- The ways of a wake, by its kind, and the ways out of its refusals. Assumes nothing.
 use Prim.Native.Nat.{ℕ, _≤_, _<_}
 use native.Mathlib.Omega.{arith}
-use mathlib.Core.Path.{_≡_, refl, sym, ap, _∙_}
+use mathlib.Core.Path.{_≡_, sym, ap, _∙_}
 use mathlib.Core.Bool.{Bool, true, false, _||_}
-use mathlib.Core.List.{List, [], _∷_}
+use mathlib.Core.List.{List, _∷_}
 use mathlib.Core.Option.{Option, some}
 use lib.ListN.{length}
 use lib.Dec.{eqb, leb}
@@ -12,7 +12,6 @@ use Rattle.octets.specs.Octets.{put, Bytes}
 use Rattle.machine.specs.Codes.{roleSend}
 use Rattle.machine.specs.Values.{Rec, Store, Key}
 use Rattle.machine.specs.Layout.{encode, decode}
-use Rattle.machine.specs.Receive.{found}
 use Rattle.machine.specs.Refusals.{refusal}
 use Rattle.machine.specs.Send.{woken, wakeOut, deadlineOut, change, deadlineAt}
 use Rattle.machine.specs.Calls.{heldRow, sendWake, deadlineWake, wakeRoom, wakeRun, wakeStep}

@@ -1,15 +1,14 @@
 -- A push that is not refused, from bytes to stores: the pieces are cut into the free cells, then the record is opened. Assumes nothing.
-use Prim.Native.Nat.{ℕ, zero, suc, _+_, _≤_, _<_}
+use Prim.Native.Nat.{ℕ, zero, suc, _+_, _<_}
 use native.Mathlib.Omega.{arith}
 use native.Mathlib.Nat.{zero-add}
 use mathlib.Core.Path.{_≡_, refl, sym, ap, _∙_, subst}
 use mathlib.Core.List.{List, [], _∷_, _++_, map}
-use lib.ListN.{length, getD, take, drop, take-append-drop}
-use lib.Dec.{ltb}
+use lib.ListN.{length, getD, drop, take-append-drop}
 use borrow.Author.Tests.{eq-eqb, ne-eqb, lt-ltb, ltb-true}
 use Rattle.octets.specs.Octets.{put, pow, Bytes}
 use Rattle.octets.specs.Parts.{getD-part}
-use Rattle.machine.specs.Limits.{headBytes, recBytes, storeBytes, slotsOf}
+use Rattle.machine.specs.Limits.{headBytes, recBytes, slotsOf}
 use Rattle.machine.specs.Codes.{roleSend, kindLeaving, heldKind}
 use Rattle.machine.specs.Values.{Head, Cell, Rec, Store}
 use Rattle.machine.specs.Chains.{first, chainRows}
@@ -25,7 +24,6 @@ use Rattle.laws.specs.Walks.{head-byte}
 use Rattle.steps.specs.Cut.{places-cut}
 use Rattle.steps.specs.Init.{HeadFine}
 use Rattle.steps.specs.Push.{leaving, leaving-sized, pushed-valid}
-use Rattle.links.specs.Links.{Links}
 use Rattle.links.specs.InRange.{links}
 use Rattle.links.specs.Byte.{first-byte}
 use Rattle.links.specs.Cut.{cutBytes, cut-ready}

@@ -1,5 +1,6 @@
 // Acknowledgements and the read: the office tells how far it is. Document 01: "Ack init 0 to 1, ack done 1 to 2, read 2 to 3; ack chunk needs 1 and marks
 // its piece Acked. Any other state is 18."
+use crate::record::IN_PROGRESS;
 use packet::chunk::MessageChunk;
 use packet::header;
 use store::field;
@@ -16,9 +17,6 @@ ghost use Rattle.machine.specs.Send.{change, withState, ackPiece};
 ghost use Rattle.machine.specs.Calls.{frameBytes, stateRow, ackChunkRow};
 ghost use Rattle.store.specs.HeldAt.{Sends};
 ghost use Rattle.store.specs.Refuse.{stepped};
-
-// The state in which pieces are sent.
-const IN_PROGRESS: u8 = 1;
 
 // Ack init, ack done and read: the number, and the store with the record in its next state.
 pub fn advance(send: &mut [u8], frame: &[u8], state: u8, next: u8) -> u64

@@ -1,6 +1,10 @@
 // The deadline wake of one record: document 01, "Steps", "Deadline wake (kind 2)". The host fires it; the try duration only enters the report.
+use crate::record::IN_PROGRESS;
+use crate::record::INIT;
+use crate::record::row_at;
 use packet::header;
 use packet::run;
+use rows::record::Record;
 use store::field;
 ghost use mathlib.Core.Path.{_≡_};
 ghost use mathlib.Core.Option.{some};
@@ -9,22 +13,19 @@ ghost use lib.ListN.{length};
 ghost use lib.Dec.{eqb};
 ghost use Rattle.octets.specs.Octets.{put};
 ghost use Rattle.machine.specs.Codes.{roleSend};
-ghost use Rattle.machine.specs.Layout.{sendingOf, encode, decode};
+ghost use Rattle.machine.specs.Layout.{encode, decode};
 ghost use Rattle.machine.specs.Send.{deadlineOut, deadlineAt};
-ghost use Rattle.store.specs.HeldAt.{rowIn, recIn, HeldAt, Reached};
+ghost use Rattle.store.specs.HeldAt.{recIn, HeldAt};
+ghost use Rattle.outbox.specs.Here.{Here};
 ghost use Rattle.outbox.specs.Late.{deadlineRoom, abortedOf};
-
-// The states that are not settled.
-const INIT: u8 = 0;
-
-const IN_PROGRESS: u8 = 1;
 
 // Whether the record has the timed-out mark: a deadline wake was there before.
 fn is_late(send: &[u8], at: usize) -> bool
-    requires { ⌜ Reached (now send) at ⌝ }
-    ensures { λ r. ⌜ r ≡ eqb (sendingOf (rowIn (now (send .entry)) at) .timedOut) 1 ⌝ }
+    requires { ⌜ Here (now send) at ⌝ }
+    ensures { λ r. ⌜ r ≡ eqb (recIn (now (send .entry)) at .sending .timedOut) 1 ⌝ }
 {
-    field::timed_out(send, at) == 1
+    let row = row_at(send, at);
+    send[row + Record::TIMED_OUT] == 1
 }
 
 // The aborted packet of a record that is not settled, as the run's one entry; answers where the run ends.

@@ -25,7 +25,7 @@ ghost use Rattle.outbox.specs.Here.{Here};
 ghost use Rattle.outbox.specs.Room.{sendRoom};
 
 // The most bytes of a message.
-const LONGEST: usize = rows::message::LONGEST as usize;
+pub const LONGEST: usize = rows::message::LONGEST as usize;
 
 // Whether every piece of the record that the link at byte `link` leads to is acknowledged: as many as it has slots.
 pub fn all_acked(store: &[u8], link: usize) -> bool

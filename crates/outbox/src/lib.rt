@@ -1,5 +1,5 @@
-// What a sender's record sends when it is woken, in place: the store's bytes and the run are written. Who calls has checked that the bytes are a
-// sound send store, and hands over the byte where the link to the record stands.
+// What the tablet does with the messages that leave: push, the acknowledgements that come, both wakes, and the report. A port of message.rs, `push_message`
+// with its wake loop, `handle_message_reply` and `message_info`. Each step is handed a sound send store and works on its bytes in place; a refusal changes nothing.
 pub mod acks;
 mod deadline;
 mod done;

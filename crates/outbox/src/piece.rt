@@ -27,7 +27,7 @@ ghost use Rattle.cells.specs.InPlace.{CellIn};
 ghost use Rattle.outbox.specs.Sending.{chunkOf, Turn, Sends};
 
 // A piece that was never sent.
-const STARTED: u8 = 0;
+pub const STARTED: u8 = 0;
 
 // A piece is sent again after so many milliseconds.
 const AGAIN_AFTER: u64 = 100;

@@ -1,4 +1,5 @@
 // Push: a message starts to leave. Its data is cut by 1,300 into free cells, its record is opened, and its init is sent.
+use crate::done::LONGEST;
 use answer::Answer;
 use packet::init::MessageInit;
 use packet::run;
@@ -19,10 +20,8 @@ ghost use Rattle.store.specs.HeldAt.{Sends};
 ghost use Rattle.store.specs.Opening.{newHead};
 ghost use Rattle.outbox.specs.Pushing.{pushed, soundRow, Pushable, firstPlace};
 
-// The most bytes of a topic, and of a message.
+// The most bytes of a topic.
 const LARGEST_TOPIC: usize = 255;
-
-const LONGEST: usize = message::LONGEST as usize;
 
 // What the run of a push takes at most.
 const ROOM: usize = run::PACKET + MessageInit::TOPIC + LARGEST_TOPIC;

@@ -1,5 +1,7 @@
 // The report on a message that leaves. Document 01, "Report, into its buffer": destination (16), state (1), counts of Started, Sent and Acked (1 each),
 // created and end in whole seconds (8 each), length (8).
+use crate::piece::STARTED;
+use crate::record::IN_PROGRESS;
 use answer::Answer;
 use octets::copy_in;
 use octets::put64;
@@ -33,11 +35,6 @@ const ROOM: usize = LENGTH + 8;
 
 // A second has so many milliseconds.
 const SECOND: u64 = 1000;
-
-// A piece that was never sent, and the state in which pieces are sent.
-const STARTED: u8 = 0;
-
-const IN_PROGRESS: u8 = 1;
 
 // How many pieces of the record are in a state; 0 unless it is in progress.
 fn counted(send: &[u8], at: usize, state: u8) -> u8

@@ -4,6 +4,8 @@ use crate::done::all_acked;
 use crate::done::send_done;
 use crate::due::send_due;
 use crate::init::put_init;
+use crate::record::IN_PROGRESS;
+use crate::record::INIT;
 use crate::record::names_at;
 use crate::record::row_at;
 use answer::Answer;
@@ -35,11 +37,6 @@ const DEADLINE: u64 = 2;
 const SEND_ROOM: usize = 34250;
 
 const DEADLINE_ROOM: usize = 46;
-
-// States of a record in which a wake sends something.
-const INIT: u8 = 0;
-
-const IN_PROGRESS: u8 = 1;
 
 // A record in progress: its due pieces are sent, or the done once every piece is acknowledged; answers where the run ends.
 fn progress(store: &mut [u8], link: usize, clock: u64, out: &mut [u8]) -> usize

@@ -47,12 +47,29 @@ pub extern "C" fn socketlemon_push(
 ) -> Answer
     ensures { λ r. ⌜ record { number = r .number; run = r .run; wake = r .wake; send = now (send .exit); out = now (run .exit) } ≡ pushOf (now (send .entry)) (now (id .entry)) reply (now (from .entry)) (now (to .entry)) (now (topic .entry)) (now (bytes .entry)) created «try_ms» (now (run .entry)) ⌝ }
 {
-    message::push(send, id, reply, from, to, topic, bytes, created, try_ms, run)
+    message::push(
+        send,
+        id,
+        reply,
+        from,
+        to,
+        topic,
+        bytes,
+        created,
+        try_ms,
+        run,
+    )
 }
 
 // A wake of a message: kind 1 sends what is due, kind 2 lets the deadline pass.
 #[no_mangle]
-pub extern "C" fn socketlemon_wake(send: &mut [u8], kind: u64, id: &[u8; 8], clock: u64, run: &mut [u8]) -> Answer
+pub extern "C" fn socketlemon_wake(
+    send: &mut [u8],
+    kind: u64,
+    id: &[u8; 8],
+    clock: u64,
+    run: &mut [u8],
+) -> Answer
     ensures { λ r. ⌜ record { number = r .number; run = r .run; wake = r .wake; send = now (send .exit); out = now (run .exit) } ≡ wakeOf (now (send .entry)) kind (now (id .entry)) clock (now (run .entry)) ⌝ }
 {
     message::wake(send, kind, id, clock, run)

@@ -1,8 +1,6 @@
 -- Assumes nothing.
 use native.Mathlib.Omega.{arith}
 use mathlib.Core.Path.{ap, _∙_}
-use mathlib.Core.List.{List}
-use Prim.Native.Nat.{ℕ}
 use lib.ListN.{length}
 use Rattle.machine.specs.Codes.{roleSend}
 use Rattle.store.specs.Met.{here-reached, here-sized}
@@ -15,23 +13,41 @@ state-requires : tie.Need-state-requires
 state-requires c κs = here-reached roleSend _ (λ i. c .before .shared-slice-known .given i .fits) _ (c .before .before .pre .0)
 
 source-requires : tie.Need-source-requires
-source-requires c κs = here-reached roleSend _ (λ i. c .before .before .before .before .shared-slice-known .given i .fits) _ (c .before .before .before .before .before .pre .0)
+source-requires c κs =
+    let slice = c .before .before .before .before in
+    let start = slice .before in
+    here-reached roleSend _ (λ i. slice .shared-slice-known .given i .fits) _ (start .pre .0)
 
 destination-requires : tie.Need-destination-requires
-destination-requires c κs = here-reached roleSend _ (λ i. c .before .before .before .before .before .shared-slice-known .given i .fits) _ (c .before .before .before .before .before .before .pre .0)
+destination-requires c κs =
+    let slice = c .before .before .before .before .before in
+    let start = slice .before in
+    here-reached roleSend _ (λ i. slice .shared-slice-known .given i .fits) _ (start .pre .0)
 
 id-requires : tie.Need-id-requires
-id-requires c κs = here-reached roleSend _ (λ i. c .before .before .before .before .before .before .shared-slice-known .given i .fits) _ (c .before .before .before .before .before .before .before .pre .0)
+id-requires c κs =
+    let slice = c .before .before .before .before .before .before in
+    let start = slice .before in
+    here-reached roleSend _ (λ i. slice .shared-slice-known .given i .fits) _ (start .pre .0)
 
 put-header-requires : tie.Need-put-header-requires
 put-header-requires c κs =
-    let z = names-long _ _ (here-sized roleSend _ (λ i. c .before .before .before .before .before .before .before .shared-slice-known .given i .fits) _ (c .before .before .before .before .before .before .before .before .pre .0) .head) in (
-      record { source = ap length (c .before .before .source .ensures) ∙ z .0; target = ap length (c .before .destination .ensures) ∙ z .1; fits = omega (arith, c .before .before .before .before .before .before .before .before .pre .1) },
+    let slice = c .before .before .before .before .before .before .before in
+    let start = slice .before in
+    let z = names-long _ _ (here-sized roleSend _ (λ i. slice .shared-slice-known .given i .fits) _ (start .pre .0) .head) in (
+      record { source = ap length (c .before .before .source .ensures) ∙ z .0; target = ap length (c .before .destination .ensures) ∙ z .1; fits = omega (arith, start .pre .1) },
       ap length (c .id .ensures) ∙ z .2,
     )
 
 returns : tie.Need-returns
-returns c = aborted-put _ _ _ (c .before .before .before .before .before .before .before .before .state .ensures) (here-sized roleSend _ (λ i. c .before .before .before .before .before .before .before .before .before .before .shared-slice-known .given i .fits) _ (c .before .before .before .before .before .before .before .before .before .before .before .pre .0) .head) (c .before .before .before .before .before .before .before .if1 .taken) _ _ _ _ _ (c .before .before .before .before .before .source .ensures) (c .before .before .before .before .destination .ensures) (c .before .before .before .id .ensures) (c .before .before .put-header .ensures)
+returns c =
+    let destination = c .before .before .before .before in
+    let source = destination .before in
+    let then-1 = source .before .before in
+    let state = then-1 .before in
+    let slice = state .before .before in
+    let start = slice .before in
+    aborted-put _ _ _ (state .state .ensures) (here-sized roleSend _ (λ i. slice .shared-slice-known .given i .fits) _ (start .pre .0) .head) (then-1 .if1 .taken) _ _ _ _ _ (source .source .ensures) (destination .destination .ensures) (c .before .before .before .id .ensures) (c .before .before .put-header .ensures)
 
 returns-2 : tie.Need-returns-2
 returns-2 c = aborted-none _ _ _ (c .before .state .ensures) (c .if1 .left) _

@@ -3,7 +3,6 @@ use native.Mathlib.Omega.{arith}
 use Rattle.machine.specs.Codes.{roleSend}
 use Rattle.links.specs.InRange.{links}
 use Rattle.outbox.proofs.Pushes.{place-none, place-some}
-use borrow.Author.Needs.{needs}
 use Rattle.outbox.proofs.push.first_place.Statement.{statement}
 use Rattle.outbox.proofs.push.first_place.Tie as tie
 

@@ -11,10 +11,28 @@ use Rattle.outbox.proofs.push.hold.Statement.{statement}
 use Rattle.outbox.proofs.push.hold.Tie as tie
 
 open-leaving-requires : tie.Need-open-leaving-requires
-open-leaving-requires c κs = (subst Openable (sym (c .before .before .before .cut .ensures)) (cut-openable _ (λ i. c .before .before .before .before .before .before .before .before .before .before .before .before .slice-known .given i .fits) _ _ (c .before .before .before .before .before .before .before .before .before .before .before .before .before .pre) (head-fine _ (c .before .before .before .before .before .before .before .before .before .before .before .before .before .pre .fits) (one-le (c .before .before .before .before .before .before .before .before .before .before .before .before .before .args .reply)) (λ i. c .before .before .before .before .before .before .before .before .before .before .before .shared-slice-known .given i .fits) (λ i. c .before .before .before .before .before .before .before .before .before .before .shared-slice-known2 .given i .fits) (λ i. c .before .before .before .before .before .before .before .before .before .shared-slice-known3 .given i .fits) (λ i. c .before .before .before .before .before .before .before .before .shared-slice-known4 .given i .fits)) (λ i. c .before .before .before .before .before .before .before .shared-slice-known5 .given i .fits) _ _ (wide (c .before .before .before .before .before .before .before .before .before .before .before .before .before .args .created) (omega (arith, c .before .before .before .before .before .before .before .before .before .before .before .before .before .fits .created))) (wide (c .before .before .before .before .before .before .before .before .before .before .before .before .before .args .end) (omega (arith, c .before .before .before .before .before .before .before .before .before .before .before .before .before .fits .end)))), c .before .before .before .before .before .before .before .before .before .before .before .before .before .pre .fits)
+open-leaving-requires c κs =
+    let slice5 = c .before .before .before .before .before .before .before in
+    let slice4 = slice5 .before in
+    let slice3 = slice4 .before in
+    let slice2 = slice3 .before in
+    let slice = slice2 .before in
+    let at-slice = slice .before in
+    let start = at-slice .before in
+    (subst Openable (sym (c .before .before .before .cut .ensures)) (cut-openable _ (λ i. at-slice .slice-known .given i .fits) _ _ (start .pre) (head-fine _ (start .pre .fits) (one-le (start .args .reply)) (λ i. slice .shared-slice-known .given i .fits) (λ i. slice2 .shared-slice-known2 .given i .fits) (λ i. slice3 .shared-slice-known3 .given i .fits) (λ i. slice4 .shared-slice-known4 .given i .fits)) (λ i. slice5 .shared-slice-known5 .given i .fits) _ _ (wide (start .args .created) (omega (arith, start .fits .created))) (wide (start .args .end) (omega (arith, start .fits .end)))), start .pre .fits)
 
 returns : tie.Need-returns
-returns c = push-opened _ (λ i. c .before .before .before .before .before .before .before .before .before .before .before .before .before .before .before .slice-known .given i .fits) _ _ (c .before .before .before .before .before .before .before .before .before .before .before .before .before .before .before .before .pre) (head-fine _ (c .before .before .before .before .before .before .before .before .before .before .before .before .before .before .before .before .pre .fits) (one-le (c .before .before .before .before .before .before .before .before .before .before .before .before .before .before .before .before .args .reply)) (λ i. c .before .before .before .before .before .before .before .before .before .before .before .before .before .before .shared-slice-known .given i .fits) (λ i. c .before .before .before .before .before .before .before .before .before .before .before .before .before .shared-slice-known2 .given i .fits) (λ i. c .before .before .before .before .before .before .before .before .before .before .before .before .shared-slice-known3 .given i .fits) (λ i. c .before .before .before .before .before .before .before .before .before .before .before .shared-slice-known4 .given i .fits)) (λ i. c .before .before .before .before .before .before .before .before .before .before .shared-slice-known5 .given i .fits) _ _ (wide (c .before .before .before .before .before .before .before .before .before .before .before .before .before .before .before .before .args .created) (omega (arith, c .before .before .before .before .before .before .before .before .before .before .before .before .before .before .before .before .fits .created))) (wide (c .before .before .before .before .before .before .before .before .before .before .before .before .before .before .before .before .args .end) (omega (arith, c .before .before .before .before .before .before .before .before .before .before .before .before .before .before .before .before .fits .end))) _ _ _ (c .before .before .before .before .before .before .cut .ensures) (c .before .before .before .before .before .before .before .before .first-place .ensures) (c .before .before .open-leaving .ensures)
+returns c =
+    let cut = c .before .before .before .before .before .before in
+    let first-place = cut .before .before in
+    let slice5 = first-place .before .before in
+    let slice4 = slice5 .before in
+    let slice3 = slice4 .before in
+    let slice2 = slice3 .before in
+    let slice = slice2 .before in
+    let at-slice = slice .before in
+    let start = at-slice .before in
+    push-opened _ (λ i. at-slice .slice-known .given i .fits) _ _ (start .pre) (head-fine _ (start .pre .fits) (one-le (start .args .reply)) (λ i. slice .shared-slice-known .given i .fits) (λ i. slice2 .shared-slice-known2 .given i .fits) (λ i. slice3 .shared-slice-known3 .given i .fits) (λ i. slice4 .shared-slice-known4 .given i .fits)) (λ i. slice5 .shared-slice-known5 .given i .fits) _ _ (wide (start .args .created) (omega (arith, start .fits .created))) (wide (start .args .end) (omega (arith, start .fits .end))) _ _ _ (cut .cut .ensures) (first-place .first-place .ensures) (c .before .before .open-leaving .ensures)
 
 pub hold-spec : {M : Type 1} → statement M
 hold-spec =

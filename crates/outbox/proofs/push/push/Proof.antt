@@ -26,24 +26,42 @@ abbrev step : tie.Start → Store
 step s = pushStep (pushHead (what s)) (s .args .created) (s .args .created + s .args .try-ms) (s .args .bytes .now) (decode (s .args .send .now))
 
 returns : tie.Need-returns
-returns c = refused-out (way (c .before .before .before .before .before .before .before .before .before .before .before)) (step (c .before .before .before .before .before .before .before .before .before .before .before)) (initOut (pushHead (what (c .before .before .before .before .before .before .before .before .before .before .before)))) _ _ _ _ _ _ (c .before .before .refusal .ensures) (c .before .if1 .taken) (c .refuse .ensures .0) (c .refuse .ensures .1) (c .refuse .ensures .2)
+returns c =
+    let start = c .before .before .before .before .before .before .before .before .before .before .before in
+    refused-out (way start) (step start) (initOut (pushHead (what start))) _ _ _ _ _ _ (c .before .before .refusal .ensures) (c .before .if1 .taken) (c .refuse .ensures .0) (c .refuse .ensures .1) (c .refuse .ensures .2)
 
 add-hold : tie.Need-add-hold
-add-hold c = omega (arith, push-end (what (c .before .before .before .before .before .before .before .before .before .before .before)) (c .before .before .before .before .before .before .before .before .before .before .before .args .send .now) (length (c .before .before .before .before .before .before .before .before .before .before .before .args .run .now)) (sym (c .before .before .refusal .ensures) ∙ c .before .if1 .left))
+add-hold c =
+    let start = c .before .before .before .before .before .before .before .before .before .before .before in
+    omega (arith, push-end (what start) (start .args .send .now) (length (start .args .run .now)) (sym (c .before .before .refusal .ensures) ∙ c .before .if1 .left))
 
 hold-requires : tie.Need-hold-requires
-hold-requires c κs = pushable (what (c .before .before .before .before .before .before .before .before .before .before .before)) (c .before .before .before .before .before .before .before .before .before .before .before .args .send .now) (length (c .before .before .before .before .before .before .before .before .before .before .before .args .run .now)) (sym (c .before .before .refusal .ensures) ∙ c .before .if1 .left) (c .before .before .before .before .before .before .before .before .before .before .before .pre .0) (c .before .before .before .before .before .before .before .before .before .before .before .pre .1) (c .before .before .before .before .before .before .before .before .before .before .before .pre .2) (c .before .before .before .before .before .before .before .before .before .before .before .pre .3) (yes (c .before .before .before .before .before .before .before .before .before .before .before .args .reply))
+hold-requires c κs =
+    let start = c .before .before .before .before .before .before .before .before .before .before .before in
+    pushable (what start) (start .args .send .now) (length (start .args .run .now)) (sym (c .before .before .refusal .ensures) ∙ c .before .if1 .left) (start .pre .0) (start .pre .1) (start .pre .2) (start .pre .3) (yes (start .args .reply))
 
 put-init-requires : tie.Need-put-init-requires
 put-init-requires c κs =
-    let m = push-room (what (c .before .before .before .before .before .before .before .before .before .before .before .before .before .before .before)) (c .before .before .before .before .before .before .before .before .before .before .before .before .before .before .before .args .send .now) (length (c .before .before .before .before .before .before .before .before .before .before .before .before .before .before .before .args .run .now)) (sym (c .before .before .before .before .before .before .refusal .ensures) ∙ c .before .before .before .before .before .if1 .left) in
-    (record { source = c .before .before .before .before .before .before .before .before .before .before .before .before .before .before .before .pre .2; target = c .before .before .before .before .before .before .before .before .before .before .before .before .before .before .before .pre .3; fits = omega (arith, m .0, m .1) }, (c .before .before .before .before .before .before .before .before .before .before .before .before .before .before .before .pre .1, omega (arith, m .1)))
+    let else-1 = c .before .before .before .before .before in
+    let at-refusal = else-1 .before in
+    let start = at-refusal .before .before .before .before .before .before .before .before .before in
+    let m = push-room (what start) (start .args .send .now) (length (start .args .run .now)) (sym (at-refusal .refusal .ensures) ∙ else-1 .if1 .left) in
+    (record { source = start .pre .2; target = start .pre .3; fits = omega (arith, m .0, m .1) }, (start .pre .1, omega (arith, m .1)))
 
 add-sent-2 : tie.Need-add-sent-2
-add-sent-2 c = let m = push-room (what (c .before .before .before .before .before .before .before .before .before .before .before .before .before .before .before .before .before .before)) (c .before .before .before .before .before .before .before .before .before .before .before .before .before .before .before .before .before .before .args .send .now) (length (c .before .before .before .before .before .before .before .before .before .before .before .before .before .before .before .before .before .before .args .run .now)) (sym (c .before .before .before .before .before .before .before .before .before .refusal .ensures) ∙ c .before .before .before .before .before .before .before .before .if1 .left) in omega (arith, m .1)
+add-sent-2 c =
+    let else-1 = c .before .before .before .before .before .before .before .before in
+    let at-refusal = else-1 .before in
+    let start = at-refusal .before .before .before .before .before .before .before .before .before in
+    let m = push-room (what start) (start .args .send .now) (length (start .args .run .now)) (sym (at-refusal .refusal .ensures) ∙ else-1 .if1 .left) in omega (arith, m .1)
 
 returns-2 : tie.Need-returns-2
-returns-2 c = sent-out (way (c .before .before .before .before .before .before .before .before .before .before .before .before .before .before .before .before .before .before .before)) (step (c .before .before .before .before .before .before .before .before .before .before .before .before .before .before .before .before .before .before .before)) (initOut (pushHead (what (c .before .before .before .before .before .before .before .before .before .before .before .before .before .before .before .before .before .before .before)))) _ _ _ _ _ _ _ (sym (sym (c .before .before .before .before .before .before .before .before .before .before .refusal .ensures) ∙ c .before .before .before .before .before .before .before .before .before .if1 .left)) (c .sent .ensures .0) (c .sent .ensures .1 ∙ init-long (what (c .before .before .before .before .before .before .before .before .before .before .before .before .before .before .before .before .before .before .before)) (c .before .before .before .before .before .before .before .before .before .before .before .before .before .before .before .before .before .before .before .pre .1) (c .before .before .before .before .before .before .before .before .before .before .before .before .before .before .before .before .before .before .before .pre .2) (c .before .before .before .before .before .before .before .before .before .before .before .before .before .before .before .before .before .before .before .pre .3)) (c .sent .ensures .2) (c .before .before .before .before .before .before .before .hold .ensures) (init-put (what (c .before .before .before .before .before .before .before .before .before .before .before .before .before .before .before .before .before .before .before)) _ _ (c .before .before .before .put-init .ensures))
+returns-2 c =
+    let hold = c .before .before .before .before .before .before .before in
+    let else-1 = hold .before .before in
+    let at-refusal = else-1 .before in
+    let start = at-refusal .before .before .before .before .before .before .before .before .before in
+    sent-out (way start) (step start) (initOut (pushHead (what start))) _ _ _ _ _ _ _ (sym (sym (at-refusal .refusal .ensures) ∙ else-1 .if1 .left)) (c .sent .ensures .0) (c .sent .ensures .1 ∙ init-long (what start) (start .pre .1) (start .pre .2) (start .pre .3)) (c .sent .ensures .2) (hold .hold .ensures) (init-put (what start) _ _ (c .before .before .before .put-init .ensures))
 
 pub push-spec : {M : Type 1} → statement M
 push-spec =

@@ -1,6 +1,6 @@
 -- Assumes nothing.
 use native.Mathlib.Omega.{arith}
-use mathlib.Core.Path.{ap, sym, _∙_}
+use mathlib.Core.Path.{ap, _∙_}
 use lib.ListN.{length}
 use Rattle.machine.specs.Codes.{roleSend}
 use Rattle.store.specs.Met.{here-reached, here-sized}
@@ -13,25 +13,59 @@ state-requires : tie.Need-state-requires
 state-requires c κs = here-reached roleSend _ (λ i. c .before .shared-slice-known .given i .fits) _ (c .before .before .pre .0)
 
 destination-requires : tie.Need-destination-requires
-destination-requires c κs = here-reached roleSend _ (λ i. c .before .before .before .before .before .before .shared-slice-known .given i .fits) _ (c .before .before .before .before .before .before .before .pre .0)
+destination-requires c κs =
+    let slice = c .before .before .before .before .before .before in
+    let start = slice .before in
+    here-reached roleSend _ (λ i. slice .shared-slice-known .given i .fits) _ (start .pre .0)
 
 copy-in-requires : tie.Need-copy-in-requires
-copy-in-requires c κs = omega (arith, ap length (c .destination .ensures) ∙ destination-long _ _ (here-sized roleSend _ (λ i. c .before .before .before .before .before .before .before .shared-slice-known .given i .fits) _ (c .before .before .before .before .before .before .before .before .pre .0) .head), c .before .before .before .before .before .before .before .before .pre .1)
+copy-in-requires c κs =
+    let slice = c .before .before .before .before .before .before .before in
+    let start = slice .before in
+    omega (arith, ap length (c .destination .ensures) ∙ destination-long _ _ (here-sized roleSend _ (λ i. slice .shared-slice-known .given i .fits) _ (start .pre .0) .head), start .pre .1)
 
 created-requires : tie.Need-created-requires
-created-requires c κs = here-reached roleSend _ (λ i. c .before .before .before .before .before .before .before .before .before .before .before .before .before .before .before .before .shared-slice-known .given i .fits) _ (c .before .before .before .before .before .before .before .before .before .before .before .before .before .before .before .before .before .pre .0)
+created-requires c κs =
+    let slice = c .before .before .before .before .before .before .before .before .before .before .before .before .before .before .before .before in
+    let start = slice .before in
+    here-reached roleSend _ (λ i. slice .shared-slice-known .given i .fits) _ (start .pre .0)
 
 end-requires : tie.Need-end-requires
-end-requires c κs = here-reached roleSend _ (λ i. c .before .before .before .before .before .before .before .before .before .before .before .before .before .before .before .before .before .before .before .before .before .shared-slice-known .given i .fits) _ (c .before .before .before .before .before .before .before .before .before .before .before .before .before .before .before .before .before .before .before .before .before .before .pre .0)
+end-requires c κs =
+    let slice = c .before .before .before .before .before .before .before .before .before .before .before .before .before .before .before .before .before .before .before .before .before in
+    let start = slice .before in
+    here-reached roleSend _ (λ i. slice .shared-slice-known .given i .fits) _ (start .pre .0)
 
 total-requires : tie.Need-total-requires
-total-requires c κs = here-reached roleSend _ (λ i. c .before .before .before .before .before .before .before .before .before .before .before .before .before .before .before .before .before .before .before .before .before .before .before .before .before .before .shared-slice-known .given i .fits) _ (c .before .before .before .before .before .before .before .before .before .before .before .before .before .before .before .before .before .before .before .before .before .before .before .before .before .before .before .pre .0)
+total-requires c κs =
+    let slice = c .before .before .before .before .before .before .before .before .before .before .before .before .before .before .before .before .before .before .before .before .before .before .before .before .before .before in
+    let start = slice .before in
+    here-reached roleSend _ (λ i. slice .shared-slice-known .given i .fits) _ (start .pre .0)
 
 put64-requires-3 : tie.Need-put64-requires-3
-put64-requires-3 c κs = omega (arith, c .before .before .before .before .before .before .before .before .before .before .before .before .before .before .before .before .before .before .out .given, c .before .before .before .before .before .before .before .before .before .before .before .before .before .out2 .given, c .before .before .before .before .before .before .before .before .out3 .given, c .before .before .before .out4 .given, c .before .before .before .before .before .before .before .before .before .before .before .before .before .before .before .before .before .before .before .before .before .before .before .before .before .before .before .before .pre .1)
+put64-requires-3 c κs =
+    let out3 = c .before .before .before .before .before .before .before .before in
+    let out2 = out3 .before .before .before .before .before in
+    let out = out2 .before .before .before .before .before in
+    let start = out .before .before .before .before .before .before .before .before .before .before in
+    omega (arith, out .out .given, out2 .out2 .given, out3 .out3 .given, c .before .before .before .out4 .given, start .pre .1)
 
 returns : tie.Need-returns
-returns c = report-is _ _ (here-sized roleSend _ (λ i. c .before .before .before .before .before .before .before .before .before .before .before .before .before .before .before .before .before .before .before .before .before .before .before .before .before .before .before .before .before .before .shared-slice-known .given i .fits) _ (c .before .before .before .before .before .before .before .before .before .before .before .before .before .before .before .before .before .before .before .before .before .before .before .before .before .before .before .before .before .before .before .pre .0) .head) _ _ _ _ _ _ _ _ _ _ _ _ _ _ (c .before .before .before .before .before .before .before .before .before .before .before .before .before .before .before .before .before .before .before .before .before .before .before .before .before .before .before .before .before .before .before .pre .1) (c .before .before .before .before .before .before .before .before .before .before .before .before .before .before .before .before .before .before .before .before .before .before .before .destination .ensures) (c .before .before .before .before .before .before .before .before .before .before .before .before .before .before .before .before .before .before .before .before .before .before .before .before .before .before .before .before .state .ensures) (c .before .before .before .before .before .before .before .before .before .before .before .before .before .before .before .before .before .before .before .before .before .before .before .before .before .before .before .counted .ensures) (c .before .before .before .before .before .before .before .before .before .before .before .before .before .before .before .before .before .before .before .before .before .before .before .before .before .before .counted2 .ensures) (c .before .before .before .before .before .before .before .before .before .before .before .before .before .before .before .before .before .before .before .before .before .before .before .before .before .counted3 .ensures) (c .before .before .before .before .before .before .before .before .before .before .before .before .before .created .ensures) (c .before .before .before .before .before .before .before .before .end .ensures) (c .before .before .before .total .ensures) (c .before .before .before .before .before .before .before .before .before .before .before .before .before .before .before .before .before .before .before .before .before .before .copy-in .ensures) (c .before .before .before .before .before .before .before .before .before .before .before .before .before .before .before .before .before .copy-in2 .ensures) (c .before .before .before .before .before .before .before .before .before .before .before .before .put64 .ensures) (c .before .before .before .before .before .before .before .put642 .ensures) (c .before .before .put643 .ensures)
+returns c =
+    let put642 = c .before .before .before .before .before .before .before in
+    let at-end = put642 .before in
+    let put64 = at-end .before .before .before .before in
+    let created = put64 .before in
+    let copy-in2 = created .before .before .before .before in
+    let copy-in = copy-in2 .before .before .before .before .before in
+    let destination = copy-in .before in
+    let counted3 = destination .before .before in
+    let counted2 = counted3 .before in
+    let counted = counted2 .before in
+    let state = counted .before in
+    let slice = state .before .before in
+    let start = slice .before in
+    report-is _ _ (here-sized roleSend _ (λ i. slice .shared-slice-known .given i .fits) _ (start .pre .0) .head) _ _ _ _ _ _ _ _ _ _ _ _ _ _ (start .pre .1) (destination .destination .ensures) (state .state .ensures) (counted .counted .ensures) (counted2 .counted2 .ensures) (counted3 .counted3 .ensures) (created .created .ensures) (at-end .end .ensures) (c .before .before .before .total .ensures) (copy-in .copy-in .ensures) (copy-in2 .copy-in2 .ensures) (put64 .put64 .ensures) (put642 .put642 .ensures) (c .before .before .put643 .ensures)
 
 pub put-report-spec : {M : Type 1} → statement M
 put-report-spec =

@@ -1,7 +1,6 @@
 -- Assumes nothing.
 use mathlib.Core.Path.{sym}
 use Rattle.outbox.proofs.Wakings.{room-send, room-deadline}
-use borrow.Author.Needs.{needs}
 use Rattle.outbox.proofs.wake.room.Statement.{statement}
 use Rattle.outbox.proofs.wake.room.Tie as tie
 

@@ -15,12 +15,14 @@ use Rattle.laws.specs.Fine.{fine-complete}
 use Rattle.links.specs.Links.{Links, RecLink}
 use Rattle.links.specs.InRange.{links}
 use Rattle.store.specs.Sought.{seek-link}
-use Rattle.store.specs.HeldAt.{placeAt, recIn, keyIn, HeldAt}
-use Rattle.store.specs.Met.{valid, rep, here-fine, here-sized, here-within, here-split}
+use Rattle.store.specs.HeldAt.{placeAt, recIn, keyIn, HeldAt, Reached}
+use Rattle.store.specs.Met.{valid, rep, here-fine, here-sized, here-within, here-split, here-reached}
 use Rattle.cells.specs.Held.{first-piece}
 
 -- the link at byte `at` and the row that it leads to are inside, and what the record there is
 pub record Here (b : List ℕ) (at : ℕ) : Type 0 where
+  pub held : HeldAt roleSend b at
+  pub reached : Reached b at
   pub links : Links b
   pub inside : at < length b
   pub some : 1 ≤ placeAt b at
@@ -40,6 +42,8 @@ here b y at h =
     let complete = fine-complete roleSend kindLeaving (recIn b at) (λ e. omega arith) f in
     let i : RecLink b at = subst (RecLink b) (sym (h .is)) (seek-link (keyIn b at) b (suc recCount) heldAt l (l .held)) in
     record {
+      held = h;
+      reached = here-reached roleSend b y at h;
       links = l;
       inside = omega (arith, i .inside, l .long);
       some = z .0;

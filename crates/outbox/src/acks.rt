@@ -1,8 +1,8 @@
 // Acknowledgements and the read: the office tells how far it is. Document 01: "Ack init 0 to 1, ack done 1 to 2, read 2 to 3; ack chunk needs 1 and marks
 // its piece Acked. Any other state is 18."
-use crate::record::IN_PROGRESS;
 use packet::chunk::MessageChunk;
 use packet::header;
+use rows::record::IN_PROGRESS;
 use store::field;
 use store::find;
 ghost use mathlib.Core.Path.{_≡_};

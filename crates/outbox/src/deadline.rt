@@ -1,9 +1,9 @@
 // The deadline wake of one record: document 01, "Steps", "Deadline wake (kind 2)". The host fires it; the try duration only enters the report.
-use crate::record::IN_PROGRESS;
-use crate::record::INIT;
 use crate::record::row_at;
 use packet::header;
 use packet::run;
+use rows::record::IN_PROGRESS;
+use rows::record::INIT;
 use rows::record::Record;
 use store::field;
 ghost use mathlib.Core.Path.{_≡_};

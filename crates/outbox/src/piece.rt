@@ -15,6 +15,7 @@ use octets::wide;
 use packet::chunk::MessageChunk;
 use packet::run;
 use rows::cell::SENT;
+use rows::cell::STARTED;
 use rows::message::CUT;
 ghost use mathlib.Core.Path.{_≡_};
 ghost use Prim.Native.Nat.{_+_};
@@ -25,9 +26,6 @@ ghost use Rattle.machine.specs.Layout.{readCell};
 ghost use Rattle.machine.specs.Send.{due};
 ghost use Rattle.cells.specs.InPlace.{CellIn};
 ghost use Rattle.outbox.specs.Sending.{chunkOf, Turn, Sends};
-
-// A piece that was never sent.
-pub const STARTED: u8 = 0;
 
 // A piece is sent again after so many milliseconds.
 const AGAIN_AFTER: u64 = 100;

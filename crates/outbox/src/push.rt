@@ -1,6 +1,6 @@
 // Push: a message starts to leave. Its data is cut by 1,300 into free cells, its record is opened, and its init is sent.
-use crate::done::LONGEST;
 use answer::Answer;
+use cells::layout::LONGEST;
 use packet::init::MessageInit;
 use packet::run;
 use rows::head::Head;

@@ -12,11 +12,6 @@ ghost use Rattle.store.specs.HeldAt.{placeAt};
 ghost use Rattle.outbox.specs.Here.{Here};
 ghost use Rattle.outbox.specs.Sending.{namesIn};
 
-// The states of a record in which it is not settled.
-pub const INIT: u8 = 0;
-
-pub const IN_PROGRESS: u8 = 1;
-
 // Its id, its source and its destination stand one behind the other: places among them, and the bytes of all three.
 pub const SOURCE: usize = Record::SOURCE - Record::ID;
 

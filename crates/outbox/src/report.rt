@@ -1,12 +1,12 @@
 // The report on a message that leaves. Document 01, "Report, into its buffer": destination (16), state (1), counts of Started, Sent and Acked (1 each),
 // created and end in whole seconds (8 each), length (8).
-use crate::piece::STARTED;
-use crate::record::IN_PROGRESS;
 use answer::Answer;
 use octets::copy_in;
 use octets::put64;
 use rows::cell::ACKED;
 use rows::cell::SENT;
+use rows::cell::STARTED;
+use rows::record::IN_PROGRESS;
 use store::field;
 ghost use mathlib.Core.Path.{_≡_};
 ghost use mathlib.Core.List.{_∷_};

@@ -35,7 +35,9 @@ pub const MOST: usize = 45;
 
 pub const LARGEST: usize = 1364;
 
-// The states of a piece: Started 0, Sent 1, Acked 2.
+// The states of a piece.
+pub const STARTED: u8 = 0;
+
 pub const SENT: u8 = 1;
 
 pub const ACKED: u8 = 2;

@@ -24,3 +24,7 @@ module _ (b : List ℕ) (row p : ℕ) (e : row ≡ recOff p) (o : ℕ) where
 
 pub row-is : (b : List ℕ) (row p : ℕ) → row ≡ recOff p → take (row + recBytes - row) (drop row b) ≡ recAt b p
 row-is b row p e = part-of b row (row + recBytes) recBytes (omega arith) ∙ ap (λ (x : ℕ). part b x recBytes) e
+
+-- a part whose length is read
+pub sized-is : (row l : List ℕ) (o n x m : ℕ) → l ≡ part row o n → n ≡ x → x ≡ m → l ≡ part row o m
+sized-is row l o n x m e p q = e ∙ ap (part row o) (p ∙ q)

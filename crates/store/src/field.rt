@@ -116,6 +116,15 @@ pub fn destination(store: &[u8], at: usize) -> &[u8]
     bytes(store, at, Record::DESTINATION, place::ADDRESS_SIZE)
 }
 
+// The topic, as that part of the store.
+pub fn topic(store: &[u8], at: usize) -> &[u8]
+    requires { ⌜ Reached (now store) at ⌝ }
+    ensures { λ r. ⌜ now r ≡ headOf (rowIn (now (store .entry)) at) .topic ⌝ }
+{
+    let size = octets::small(byte(store, at, Record::TOPIC_LENGTH));
+    bytes(store, at, Record::TOPIC, size)
+}
+
 // The whole row, as that part of the store.
 pub fn whole_row(store: &[u8], at: usize) -> &[u8]
     requires { ⌜ Reached (now store) at ⌝ }

@@ -13,16 +13,11 @@ ghost use Rattle.machine.specs.Send.{change, withState, timedOut};
 ghost use Rattle.store.specs.HeldAt.{keyIn, HeldAt};
 ghost use Rattle.store.specs.Restating.{restated, overState};
 
-// The states that are not settled.
-const INIT: u8 = 0;
-
-const IN_PROGRESS: u8 = 1;
-
 // The state of a record whose time is over.
 fn over(state: u8) -> u8
     ensures { λ r. ⌜ r ≡ overState state ⌝ }
 {
-    if (state == INIT) | (state == IN_PROGRESS) {
+    if (state == record::INIT) | (state == record::IN_PROGRESS) {
         return record::ABORTED;
     }
     state

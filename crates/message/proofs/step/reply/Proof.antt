@@ -12,7 +12,7 @@ put-reply-requires : tie.Need-put-reply-requires
 put-reply-requires c κs =
     let n = least (c .before .before .before .before .before .before .before .args .frame .now) (c .before .before .before .before .before .before .before .args .from .now) (c .before .before .before .before .before .before .before .args .to .now) (c .before .before .before .before .before .before .before .args .run .now) _ (c .before .before .before .before .reply-bytes .ensures) (c .before .before .before .if1 .left) in
     let m = most (c .before .before .before .before .before .before .before .args .frame .now) (c .before .before .before .before .before .before .before .args .from .now) (c .before .before .before .before .before .before .before .args .to .now) (c .before .before .before .before .before .before .before .args .run .now) _ (c .before .before .before .before .reply-bytes .ensures) (c .before .before .before .if1 .left) in
-    (record { source = search needs; target = search needs; fits = omega (arith, c .before .before .before .before .before .before .before .pre .1) }, (n, omega (arith, c .before .before .before .before .before .before .before .pre .0)))
+    (record { source = search needs; target = search needs; fits = omega (arith, c .before .before .before .before .before .before .before .pre .1) }, (omega arith, omega (arith, c .before .before .before .before .before .before .before .pre .0)))
 
 add-result : tie.Need-add-result
 add-result c = let m = most (c .before .before .before .before .before .before .before .before .before .before .args .frame .now) (c .before .before .before .before .before .before .before .before .before .before .args .from .now) (c .before .before .before .before .before .before .before .before .before .before .args .to .now) (c .before .before .before .before .before .before .before .before .before .before .args .run .now) _ (c .before .before .before .before .before .before .before .reply-bytes .ensures) (c .before .before .before .before .before .before .if1 .left) in omega arith

@@ -1,24 +1,21 @@
 -- Assumes nothing.
-use mathlib.Core.Path.{_≡_}
+use native.Mathlib.Omega.{arith}
+use mathlib.Core.Path.{ap, _∙_}
 use lib.ListN.{length}
-use Rattle.outbox.proofs.Packets.{sum-asked, done-here}
+use Rattle.outbox.proofs.Packets.{head-sized, done-here}
 use borrow.Author.Needs.{needs}
 use Rattle.outbox.proofs.done.put_done.Statement.{statement}
 use Rattle.outbox.proofs.done.put_done.Tie as tie
 
-sum-requires : tie.Need-sum-requires
-sum-requires c κs =
-    sum-asked _ _ _ (c .before .before .before .before .before .before .pre .0) (c .first-cell .ensures)
+put-done-requires : tie.Need-put-done-requires
+put-done-requires c κs =
+    let h = head-sized _ _ (c .before .before .before .before .before .before .before .before .before .pre .0) in
+    (record { source = ap length (c .before .before .before .before .source .ensures) ∙ h .source .0; target = ap length (c .before .before .before .destination .ensures) ∙ h .destination .0; fits = omega (arith, c .before .before .before .before .before .before .before .before .before .pre .1) }, (ap length (c .before .before .id .ensures) ∙ h .id .0, search needs))
 
 returns : tie.Need-returns
-returns c =
-    let sum = c .before .before .before .before .before .before .before .before in
-    let slots = sum .before .before in
-    let row = slots .before .before in
-    let long : length (sum .sum .result) ≡ 32 = search needs in
-    done-here _ _ (row .before .before .before .pre .0) _ (row .row-at .ensures) _ _ _ _ _ (slots .wide .ensures .0) (sum .before .first-cell .ensures) (sum .sum .ensures) long (c .before .before .put-done .ensures)
+returns c = done-here _ _ (c .before .before .before .before .before .before .before .before .before .before .before .before .pre .0) _ _ _ _ _ _ _ (c .before .before .before .before .before .before .before .source .ensures) (c .before .before .before .before .before .before .destination .ensures) (c .before .before .before .before .before .id .ensures) (c .before .before .before .before .slots .ensures .0) (c .before .before .before .before .before .before .before .before .before .sum-pieces .ensures) (search needs) (c .before .before .put-done .ensures)
 
 pub put-done-spec : {M : Type 1} → statement M
 put-done-spec =
     tie.close
-    (tie.spec (λ c κs. search needs) (λ c. search needs) (λ c. search needs) (λ c. search needs) (λ c. search needs) (λ c. search needs) (λ c. search needs) (λ c κs. search needs) (λ c κs. search needs) sum-requires (λ c. search needs) (λ c. search needs) (λ c. search needs) (λ c. search needs) (λ c. search needs) (λ c. search needs) (λ c. search needs) (λ c. search needs) (λ c. search needs) (λ c. search needs) (λ c κs. search needs) (λ c. search needs) (λ c. search needs) (λ c. search needs) returns)
+    (tie.spec (λ c κs. search needs) (λ c κs. search needs) (λ c κs. search needs) (λ c κs. search needs) (λ c κs. search needs) (λ c. search needs) put-done-requires (λ c. search needs) (λ c. search needs) (λ c. search needs) returns)

@@ -1,0 +1,42 @@
+// Document 01's values that are no theorems, and bad input for each call: a line for each call's answer, which also says whether the stores are as they
+// were, and warns where a buffer was changed past what was written. tools/message_model.py computes the same lines from document 01 without this library.
+
+mod acks;
+mod arrivals;
+mod ask;
+mod flags;
+mod make;
+mod rooms;
+mod sends;
+mod show;
+mod stores;
+mod values;
+
+// Each group of lines starts from stores that it makes anew.
+fn main() {
+    let mut recv = [0u8; 37140];
+    let mut send = [0u8; 37140];
+    values::pieces(&mut recv, &mut send);
+    values::topics(&mut recv, &mut send);
+    values::frames(&mut recv, &mut send);
+    flags::all(b"flags, fresh stores:", false);
+    flags::all(b"flags, arriving, and leaving in state 1:", true);
+    rooms::replies(&mut recv, &mut send);
+    rooms::wakes(&mut recv, &mut send);
+    rooms::reports(&mut recv, &mut send);
+    rooms::takes(&mut recv, &mut send);
+    stores::unsound();
+    stores::one_sound(&mut recv, &mut send);
+    stores::setups();
+    sends::lengths(&mut recv, &mut send);
+    sends::clocks(&mut recv, &mut send);
+    sends::records(&mut recv, &mut send);
+    sends::kinds(&mut recv, &mut send);
+    arrivals::inits(&mut recv, &mut send);
+    arrivals::records(&mut recv, &mut send);
+    arrivals::chunks(&mut recv, &mut send);
+    arrivals::cells(&mut recv, &mut send);
+    arrivals::dones(&mut recv, &mut send);
+    arrivals::wholes(&mut recv, &mut send);
+    acks::states(&mut recv, &mut send);
+}

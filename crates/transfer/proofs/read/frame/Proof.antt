@@ -1,0 +1,21 @@
+-- Safe, and it ends. Assumes nothing.
+use borrow.Author.Needs.{needs}
+use Prim.Native.Nat.{_-_, _≤_}
+use mathlib.Core.Path.{_≡_}
+use lib.ListN.{length, length-set}
+use Rattle.transfer.proofs.read.frame.Statement.{statement}
+use Rattle.transfer.proofs.read.frame.Tie as tie
+
+abbrev Inv-loop : tie.InvT-loop
+Inv-loop run a count start out₀ i₀ out i = (i ≤ 1400) × (length out ≡ 1400)
+
+abbrev μ-loop : tie.MeasureT-loop
+μ-loop run a count start out₀ i₀ out i = 1400 - i
+
+loop-again : tie.Need-loop-again Inv-loop μ-loop
+loop-again c = (search needs, simp length-set (search needs))
+
+pub frame-spec : {M : Type 1} → statement M
+frame-spec =
+    tie.close
+    (tie.spec Inv-loop μ-loop (λ c κs. search needs) (λ c κs. search needs) (λ c. search needs) (λ c. search needs) (λ c κs. search needs) (λ c κs. search needs) (λ c. search needs) (λ c. search needs) (λ c. search needs) loop-again (λ c. search needs))

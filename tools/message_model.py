@@ -1,0 +1,693 @@
+#!/usr/bin/env python3
+"""What crates/transfer and crates/message_values must write, computed by a model of document 01 that has nothing in common with the library:
+dictionaries and lists, no byte stores. Sums come from the b3sum program (Debian's package b3sum) where it is installed, else from the short
+BLAKE3 below, which `tools/message_model.py vectors crates/blake3_vectors/data/vectors.txt` checks.
+Use: tools/message_model.py transfer > crates/transfer/stdout, and the same with message_values."""
+import copy
+import shutil
+import struct
+import subprocess
+import sys
+
+# ---- sums
+
+IV = (0x6A09E667, 0xBB67AE85, 0x3C6EF372, 0xA54FF53A, 0x510E527F, 0x9B05688C, 0x1F83D9AB, 0x5BE0CD19)
+PLACES = (2, 6, 3, 10, 7, 0, 4, 13, 1, 11, 12, 5, 9, 14, 15, 8)
+MIXES = ((0, 4, 8, 12), (1, 5, 9, 13), (2, 6, 10, 14), (3, 7, 11, 15), (0, 5, 10, 15), (1, 6, 11, 12), (2, 7, 8, 13), (3, 4, 9, 14))
+
+
+def compress(chain, block, counter, size, flags):
+    words = list(struct.unpack("<16I", block.ljust(64, b"\0")))
+    v = list(chain) + list(IV[:4]) + [counter & 0xFFFFFFFF, counter >> 32, size, flags]
+    for _ in range(7):
+        for n, (a, b, c, d) in enumerate(MIXES):
+            for word, right, left in ((words[2 * n], 16, 12), (words[2 * n + 1], 8, 7)):
+                v[a] = (v[a] + v[b] + word) & 0xFFFFFFFF
+                v[d] ^= v[a]
+                v[d] = (v[d] >> right | v[d] << (32 - right)) & 0xFFFFFFFF
+                v[c] = (v[c] + v[d]) & 0xFFFFFFFF
+                v[b] ^= v[c]
+                v[b] = (v[b] >> left | v[b] << (32 - left)) & 0xFFFFFFFF
+        words = [words[p] for p in PLACES]
+    return [v[i] ^ v[i + 8] for i in range(8)]
+
+
+def subtree(data, counter, root):
+    if len(data) <= 1024:
+        blocks = [data[i:i + 64] for i in range(0, len(data), 64)] or [b""]
+        chain = IV
+        for i, block in enumerate(blocks):
+            last = i + 1 == len(blocks)
+            chain = compress(chain, block, counter, len(block), (i == 0) | last << 1 | (last and root) << 3)
+        return chain
+    left = 1024
+    while 2 * left < len(data):
+        left *= 2
+    both = subtree(data[:left], counter, False) + subtree(data[left:], counter + left // 1024, False)
+    return compress(IV, struct.pack("<16I", *both), 0, 64, 4 | root << 3)
+
+
+def blake3(data):
+    if shutil.which("b3sum"):
+        return bytes.fromhex(subprocess.run(["b3sum", "--no-names"], input=data, capture_output=True, check=True).stdout.decode().strip())
+    return struct.pack("<8I", *subtree(data, 0, True))
+
+
+# ---- packets
+
+INIT, DONE, ABORTED, CHUNK, READ, REPLY, ACK = 0x80, 0x40, 0x20, 0x10, 0x08, 0x04, 0x01
+
+
+def kind_of(flags):
+    for mask in (INIT, CHUNK, DONE) if flags & ACK else (INIT, CHUNK, DONE, READ, ABORTED):
+        if flags & mask:
+            return mask
+    return None
+
+
+def header(key, flags):
+    return key + bytes((flags, 0, 0, 0))
+
+
+def init_packet(record):
+    flags = INIT | (REPLY if record["reply"] else 0)
+    return header(record["id"], flags) + struct.pack(">QB", record["length"], len(record["topic"])) + record["topic"]
+
+
+def number(data, at):
+    return int.from_bytes(data[at:at + 8], "big")
+
+
+# ---- rules
+
+def book(rules):
+    """The first byte and the entries, or None where the rule book is malformed."""
+    if not rules or rules[0] > 1:
+        return None
+    entries, rest = {}, rules[1:]
+    while rest:
+        size = rest[0]
+        topic = rest[1:1 + size]
+        if len(rest) < 2 + size or topic in entries:
+            return None
+        subnets, rest = rest[1 + size], rest[2 + size:]
+        if len(rest) < 17 * subnets:
+            return None
+        entries[topic] = [(rest[17 * i:17 * i + 16], rest[17 * i + 16]) for i in range(subnets)]
+        rest = rest[17 * subnets:]
+        if any(bits > 128 for _, bits in entries[topic]):
+            return None
+    return rules[0], entries
+
+
+def admitted(read, topic, source):
+    first, entries = read
+    if topic not in entries:
+        return first == 0
+    value = int.from_bytes(source, "big")
+    return any(value >> (128 - bits) == int.from_bytes(address, "big") >> (128 - bits) for address, bits in entries[topic])
+
+
+# ---- stores
+
+def fresh(role, cells):
+    return {"role": role, "cells": cells, "held": {}, "whole": []}
+
+
+def sound(store, role):
+    return store.get("role") == role
+
+
+def free_records(store):
+    return 8 - len(store["held"]) - len(store["whole"])
+
+
+def free_cells(store):
+    return store["cells"] - sum(len(r["pieces"]) for r in list(store["held"].values()) + store["whole"])
+
+
+def setup(size, role):
+    cells, rest = divmod(size - 16 - 8 * 328, 1380)
+    if rest or not 1 <= cells <= 45 or role not in (1, 2):
+        return 25, None
+    return 0, fresh(role, cells)
+
+
+def slots_of(length):
+    return -(-length // 1300)
+
+
+def top_of(length):
+    return -(-length // 250) - 1 if length else 0
+
+
+# ---- calls: each gives the answer's number, its run as a list of (from, to, packet), and the wake mark
+
+def packet(recv, send, frame, source, to, rules, known, room=86):
+    if not sound(recv, 1) or not sound(send, 2):
+        return 25, [], 0
+    if len(frame) != 1400:
+        return 1, [], 0
+    key, flags = frame[:8], frame[8]
+    kind = kind_of(flags)
+    if kind is None:
+        return 20, [], 0
+    if room < 86:
+        return 2, [], 0
+    if flags & ACK:
+        refusal = acknowledge(send, key, kind, frame)
+    elif kind == INIT:
+        refusal = init(recv, frame, source, to, rules)
+    elif kind == CHUNK:
+        refusal = chunk(recv, frame)
+    elif kind == DONE:
+        refusal = done(recv, frame, known)
+    elif kind == READ:
+        refusal = advance(send, key, 2, 3)
+    else:
+        refusal = 0 if recv["held"].pop(key, None) else 8
+    if refusal:
+        return refusal, [], 0
+    if flags & ACK:
+        return 0, [], int(kind in (INIT, CHUNK))
+    kept = {INIT: 21, CHUNK: 36, DONE: 52}.get(kind)
+    if not kept:
+        return 0, [], 0
+    return 0, [(to, source, frame[:8] + bytes((flags | ACK,)) + frame[9:kept])], 0
+
+
+def init(recv, frame, source, to, rules):
+    key, reply, length = frame[:8], frame[8] & REPLY, number(frame, 12)
+    topic = frame[21:21 + frame[20]]
+    if not reply:
+        read = book(rules)
+        if read is None:
+            return 3
+        if not admitted(read, topic, source):
+            return 4
+    if any(r["id"] == key for r in recv["whole"]):
+        return 5
+    if length > 32500:
+        return 6
+    if key not in recv["held"] and not free_records(recv):
+        return 7
+    recv["held"][key] = {"id": key, "reply": bool(reply), "source": source, "destination": to, "length": length, "topic": topic,
+                         "slots": slots_of(length), "pieces": {}}
+    return 0
+
+
+def chunk(recv, frame):
+    record = recv["held"].get(frame[:8])
+    if not record:
+        return 8
+    index, offset, size = number(frame, 12), number(frame, 20), min(number(frame, 28), 1364)
+    if offset + size > record["length"]:
+        return 9
+    if index > top_of(record["length"]):
+        return 10
+    if size < 250 and index != top_of(record["length"]):
+        return 11
+    if index not in record["pieces"] and not free_cells(recv):
+        return 12
+    record["pieces"][index] = frame[36:36 + size]
+    record["slots"] = max(record["slots"], index + 1)
+    return 0
+
+
+def done(recv, frame, known):
+    record = recv["held"].get(frame[:8])
+    if not record:
+        return 8
+    pieces = record["pieces"]
+    if number(frame, 12) != record["slots"]:
+        return 13
+    if any(i not in pieces for i in range(record["slots"])):
+        return 14
+    if sum(map(len, pieces.values())) != record["length"]:
+        return 15
+    if blake3(b"".join(pieces[i] for i in sorted(pieces))) != frame[20:52]:
+        return 16
+    if not known:
+        return 17
+    recv["whole"].append(recv["held"].pop(frame[:8]))
+    return 0
+
+
+def advance(send, key, before, after):
+    record = send["held"].get(key)
+    if not record:
+        return 8
+    if record["state"] != before:
+        return 18
+    record["state"] = after
+    return 0
+
+
+def acknowledge(send, key, kind, frame):
+    if kind == INIT:
+        return advance(send, key, 0, 1)
+    if kind == DONE:
+        return advance(send, key, 1, 2)
+    record = send["held"].get(key)
+    if not record:
+        return 8
+    if record["state"] != 1:
+        return 18
+    index = number(frame, 12)
+    if index >= len(record["pieces"]):
+        return 19
+    record["pieces"][index].update(mark="acked", stamp=0)
+    return 0
+
+
+def push(send, key, reply, source, to, topic, data, created, tries, room=310):
+    if not sound(send, 2):
+        return 25, [], 0
+    if room < 310:
+        return 2, [], 0
+    if len(topic) > 255:
+        return 21, [], 0
+    if len(data) > 32500:
+        return 6, [], 0
+    if created + tries >= 2 ** 64:
+        return 24, [], 0
+    if key in send["held"]:
+        return 22, [], 0
+    if not free_records(send):
+        return 7, [], 0
+    pieces = [{"data": data[i:i + 1300], "mark": "started", "stamp": 0} for i in range(0, len(data), 1300)]
+    if free_cells(send) < len(pieces):
+        return 12, [], 0
+    record = {"id": key, "reply": bool(reply), "source": source, "destination": to, "topic": topic, "length": len(data), "state": 0, "late": False,
+              "created": created, "end": created + tries, "pieces": pieces}
+    send["held"][key] = record
+    return 0, [(source, to, init_packet(record))], 0
+
+
+def wake(send, kind, key, clock, room=34250):
+    if not sound(send, 2):
+        return 25, [], 0
+    if kind not in (1, 2):
+        return 20, [], 0
+    if room < (34250 if kind == 1 else 46):
+        return 2, [], 0
+    record = send["held"].get(key)
+    if not record:
+        return 8, [], 0
+    packets = due(record, clock) if kind == 1 else deadline(send, record)
+    return 0, [(record["source"], record["destination"], p) for p in packets], 0
+
+
+def due(record, clock):
+    if record["late"]:
+        return []
+    if record["state"] == 0:
+        return [init_packet(record)]
+    if record["state"] != 1:
+        return []
+    pieces, out = record["pieces"], []
+    if all(p["mark"] == "acked" for p in pieces):
+        sum_of = blake3(b"".join(p["data"] for p in pieces))
+        return [header(record["id"], DONE) + struct.pack(">Q", len(pieces)) + sum_of]
+    for index, piece in enumerate(pieces):
+        if piece["mark"] == "started" or piece["mark"] == "sent" and clock - piece["stamp"] >= 100:
+            piece.update(mark="sent", stamp=clock)
+            out.append(header(record["id"], CHUNK) + struct.pack(">QQQ", index, 1300 * index, len(piece["data"])) + piece["data"])
+    return out
+
+
+def deadline(send, record):
+    if record["late"]:
+        del send["held"][record["id"]]
+        return []
+    record["late"] = True
+    if record["state"] > 1:
+        return []
+    record["state"] = 4
+    return [header(record["id"], ABORTED)]
+
+
+def report(send, key, room=44):
+    """The number and the report's fields."""
+    if not sound(send, 2):
+        return 25, None
+    if room < 44:
+        return 2, None
+    record = send["held"].get(key)
+    if not record:
+        return 8, None
+    counts = [sum(p["mark"] == mark for p in record["pieces"]) if record["state"] == 1 else 0 for mark in ("started", "sent", "acked")]
+    return 0, (record["destination"], record["state"], *counts, record["created"] // 1000, record["end"] // 1000, record["length"])
+
+
+def take(recv, data_room=32828, room=46):
+    """An answer, and the record that was taken."""
+    if not sound(recv, 1):
+        return 25, [], 0, None
+    if not recv["whole"]:
+        return 23, [], 0, None
+    record = recv["whole"][0]
+    if data_room < 328 + record["length"] or room < 46:
+        return 2, [], 0, None
+    recv["whole"].pop(0)
+    return 0, [(record["destination"], record["source"], header(record["id"], READ))], 0, record
+
+
+def run_bytes(run):
+    return sum(34 + len(p) for _, _, p in run)
+
+
+def said(number, run, mark):
+    return f": {number}, run {run_bytes(run)}, wake {mark}"
+
+
+# ---- crates/transfer
+
+TABLET, OFFICE = bytes((4,)) + bytes(14) + bytes((1,)), bytes((5,)) + bytes(14) + bytes((2,))
+NAMES = {TABLET: "tablet", OFFICE: "office"}
+RULES = b"\x01\x05ducts\x01" + bytes((4,)) + bytes(15) + bytes((32,))
+
+
+def fields(p):
+    if p[8] & INIT:
+        return f", length {number(p, 12)}, topic of {p[20]}"
+    if p[8] & CHUNK:
+        return f", index {number(p, 12)}, offset {number(p, 20)}, size {number(p, 28)}"
+    if p[8] & DONE:
+        return f", count {number(p, 12)}, sum {p[20:28].hex()}"
+    return ""
+
+
+def arrive(node, source, to, p):
+    print(f"{NAMES[source]} to {NAMES[to]}: {len(p)} bytes, id {number(p, 0)}, flags {p[8]:02x}{fields(p)}")
+    answer = packet(node["recv"], node["send"], p.ljust(1400, b"\0"), source, to, RULES, 1)
+    print("  packet" + said(*answer))
+    return answer[1]
+
+
+def deliver(nodes, run):
+    for entry in run:
+        for back in arrive(nodes[OFFICE], *entry):
+            arrive(nodes[TABLET], *back)
+
+
+def show_report(nodes, key):
+    refusal, told = report(nodes[TABLET]["send"], key)
+    line = "report" + said(refusal, [], 0)
+    if told:
+        names = ("state", "started", "sent", "acked", "created", "end", "length")
+        line += f", to {NAMES[told[0]]}" + "".join(f", {name} {n}" for name, n in zip(names, told[1:]))
+    print(line)
+
+
+def wakes(nodes, key, start):
+    for clock in range(start, start + 500, 100):
+        answer = wake(nodes[TABLET]["send"], 1, key, clock)
+        print(f"wake 1 at {clock}" + said(*answer))
+        if not answer[1]:
+            return
+        deliver(nodes, answer[1])
+
+
+def whole(nodes, n, reply, length):
+    key, data = n.to_bytes(8, "big"), bytes((7 * i + n) % 251 for i in range(length))
+    print(f"message {n} of {length} bytes")
+    answer = push(nodes[TABLET]["send"], key, reply, TABLET, OFFICE, b"ducts", data, 5999, 30001)
+    print("push" + said(*answer))
+    deliver(nodes, answer[1])
+    show_report(nodes, key)
+    wakes(nodes, key, 6000)
+    show_report(nodes, key)
+    *answer, record = take(nodes[OFFICE]["recv"])
+    line = "take" + said(*answer)
+    if record:
+        same = b"".join(record["pieces"][i] for i in sorted(record["pieces"])) == data
+        line += f", id {number(record['id'], 0)}, reply {int(record['reply'])}, length {record['length']}, topic of {len(record['topic'])}"
+        line += ", as pushed" if same else ", NOT as pushed"
+    print(line)
+    for entry in answer[1]:
+        arrive(nodes[TABLET], *entry)
+    show_report(nodes, key)
+
+
+def deadline_at(nodes, key, clock):
+    answer = wake(nodes[TABLET]["send"], 2, key, clock)
+    print(f"wake 2 at {clock}" + said(*answer))
+    deliver(nodes, answer[1])
+    show_report(nodes, key)
+    return answer[1]
+
+
+def transfer():
+    nodes = {}
+    for address in (TABLET, OFFICE):
+        nodes[address] = {}
+        for role, name in ((1, "recv"), (2, "send")):
+            refusal, nodes[address][name] = setup(64740, role)
+            print(f"setup {role}" + said(refusal, [], 0))
+    for n, length in enumerate((0, 1, 1300, 1550, 32500, 1301), 1):
+        whole(nodes, n, n == 4, length)
+    print("deadlines of message 6")
+    key = (6).to_bytes(8, "big")
+    for entry in deadline_at(nodes, key, 305999):
+        arrive(nodes[OFFICE], *entry)
+    wakes(nodes, key, 305999)
+    deadline_at(nodes, key, 605999)
+    deadline_at(nodes, key, 605999)
+
+
+# ---- crates/message_values: stores of 25 cells
+
+NEAR, FAR = b"\x11" * 16, b"\x22" * 16
+OPEN = b"\0"
+
+
+def keyed(n):
+    return n.to_bytes(8, "big")
+
+
+def frame(n, flags, first=0, second=0, third=0):
+    return (header(keyed(n), flags) + struct.pack(">QQQ", first, second, third)).ljust(1400, b"\0")
+
+
+def done_frame(n, data):
+    return (header(keyed(n), DONE) + struct.pack(">Q", len(data)) + blake3(data)).ljust(1400, b"\0")
+
+
+class Bench:
+    """Two stores, and a line for each call on them."""
+
+    def __init__(self, held=False):
+        self.recv, self.send = fresh(1, 25), fresh(2, 25)
+        if held:
+            self.quiet(frame(1, INIT, 300))
+            self.pushed(1)
+            self.quiet(frame(1, INIT | ACK))
+
+    def line(self, what, call):
+        before = copy.deepcopy((self.recv, self.send))
+        answer = call()[:3]
+        print(what + said(*answer) + ", store " + ("kept" if before == (self.recv, self.send) else "changed"))
+        return answer[0]
+
+    def arrives(self, f, rules=OPEN, known=1, room=86):
+        return packet(self.recv, self.send, f, NEAR, FAR, rules, known, room)
+
+    def quiet(self, f):
+        self.arrives(f)
+
+    def pushed(self, n):
+        push(self.send, keyed(n), 0, FAR, NEAR, b"t", b"\x07" * 300, 0, 0)
+
+    def packet(self, what, f, **others):
+        self.line(what, lambda: self.arrives(f, **others))
+
+    def push(self, what, n, topic, data, created=0, tries=0, room=310):
+        self.line(what, lambda: push(self.send, keyed(n), 0, FAR, NEAR, topic, data, created, tries, room))
+
+    def wake(self, what, kind, n, room=34250):
+        self.line(what, lambda: wake(self.send, kind, keyed(n), 1000, room))
+
+    def report(self, what, n, room=44):
+        self.line(what, lambda: (report(self.send, keyed(n), room)[0], [], 0))
+
+    def take(self, what, data_room=400, room=46):
+        self.line(what, lambda: take(self.recv, data_room, room))
+
+
+def values():
+    b = Bench()
+    for n, length in ((1, 250), (2, 251)):
+        b.packet(f"init of {length}", frame(n, INIT, length))
+        b.packet("  index 0, offset 0, size 249", frame(n, CHUNK, 0, 0, 249))
+    b = Bench()
+    for length in (256, 255):
+        b.push(f"push, topic of {length}", 1, b"t" * length, b"")
+    b = Bench()
+    for length in (0, 1399, 1401):
+        b.packet(f"frame of {length}", b"\x80" * length)
+    b.packet("frame of 1400", frame(1, INIT, 250))
+
+
+def flags(what, held):
+    counts = {}
+    for f in range(256):
+        refusal = Bench(held).arrives(frame(1, f))[0]
+        counts[refusal] = counts.get(refusal, 0) + 1
+    print(what + "".join(f" {counts[n]} x {n}" for n in sorted(counts)))
+
+
+def rooms():
+    b = Bench()
+    for room in (85, 86):
+        b.packet(f"packet, run of {room}", frame(1, INIT, 1), room=room)
+    for room in (309, 310):
+        b.push(f"push, run of {room}", 1, b"t", b"x", room=room)
+    b = Bench(True)
+    for kind, room in ((1, 34249), (1, 34250), (2, 45), (2, 46)):
+        b.wake(f"wake {kind}, run of {room}", kind, 1, room)
+    b = Bench(True)
+    for room in (43, 44, 60):
+        b.report(f"report of {room}", 1, room)
+    b.report("report on an unknown id", 2, 60)
+    b = Bench()
+    for f in (frame(1, INIT, 1), frame(1, CHUNK, 0, 0, 1), done_frame(1, b"\0")):
+        b.quiet(f)
+    b.take("take, data of 328", 328)
+    b.take("take, run of 45", 329, 45)
+    b.take("take, data of 329, run of 46", 329)
+    b.take("take, none whole", 329)
+
+
+def stores():
+    for what in ("of zeros", "of 255s", "in each other's place"):
+        print("stores " + what)
+        b = Bench()
+        b.recv, b.send = (b.send, b.recv) if what.startswith("in") else ({}, {})
+        b.packet("  packet", frame(1, INIT, 1))
+        b.push("  push", 1, b"t", b"x")
+        b.wake("  wake 1", 1, 1)
+        b.wake("  wake 2", 2, 1)
+        b.report("  report", 1)
+        b.take("  take")
+    b = Bench()
+    b.send = {}
+    b.packet("packet, bad send store", frame(1, INIT, 1))
+    b = Bench()
+    b.recv = {}
+    b.packet("packet, bad receive store", frame(1, INIT, 1))
+    for size, role in ((37140, 0), (37140, 3), (37140, 1), (37140, 2), (2640, 1), (4019, 1), (4021, 1), (4020, 1)):
+        refusal, made = setup(size, role)
+        print(f"setup {role} of {size}" + said(refusal, [], 0) + ", store " + ("changed" if made else "kept"))
+
+
+def sends():
+    b = Bench()
+    b.push("push of 32501", 1, b"t", b"\x07" * 32501)
+    b.push("push of 32500", 1, b"t", b"\x07" * 32500)
+    b.push("push of 1, no cell free", 2, b"t", b"x")
+    b.push("push of 0, no cell free", 3, b"t", b"")
+    b.push("push of an id in use", 1, b"t", b"")
+    b, most = Bench(), 2 ** 64 - 1
+    b.push("push, created + try is 2^64", 1, b"t", b"x", most, 1)
+    b.push("push, created and try are 2^64 - 1", 1, b"t", b"x", most, most)
+    b.push("push, created + try is 2^64 - 1", 1, b"t", b"x", most - 1, 1)
+    b.report("report on it", 1)
+    b = Bench()
+    for n in range(8):
+        b.pushed(n)
+    b.push("push of a ninth message", 9, b"t", b"")
+    b = Bench()
+    b.pushed(1)
+    for what, kind, n in (("0", 0, 1), ("3", 3, 1), ("1 of an unknown id", 1, 2), ("2 of an unknown id", 2, 2), ("1, state 0", 1, 1),
+                          ("2, the first", 2, 1), ("1, timed out", 1, 1), ("2, the second", 2, 1), ("2, the third", 2, 1)):
+        b.wake("wake " + what, kind, n)
+
+
+def inits():
+    b = Bench()
+    for what, rules in (("malformed rules", b"\x02"), ("no rules", b""), ("closed topic", b"\x01")):
+        b.packet("init, " + what, frame(1, INIT, 1), rules=rules)
+    for what, rules in (("malformed rules", b"\x02"), ("closed topic", b"\x01")):
+        b.packet("reply init, " + what, frame(1, INIT | REPLY, 1), rules=rules)
+    b.packet("init of 32501", frame(2, INIT, 32501))
+    b.packet("init of 32500", frame(2, INIT, 32500))
+    b = Bench()
+    for n in range(8):
+        b.quiet(frame(n, INIT, 1))
+    b.packet("init of a ninth message", frame(8, INIT, 1))
+    b.packet("the same init of a held id", frame(7, INIT, 1))
+    b.packet("another init of a held id", frame(7, INIT, 2))
+
+
+def chunks():
+    b = Bench()
+    b.quiet(frame(1, INIT, 1300))
+    b.packet("chunk of an unknown id", frame(2, CHUNK, 0, 0, 250))
+    b.packet("chunk, offset 1, size 1300", frame(1, CHUNK, 0, 1, 1300))
+    b.packet("chunk, offset 2^64 - 1, size 1", frame(1, CHUNK, 0, 2 ** 64 - 1, 1))
+    b.packet("chunk, index 6", frame(1, CHUNK, 6, 0, 250))
+    b.packet("chunk, index 4, size 249", frame(1, CHUNK, 4, 0, 249))
+    b.packet("chunk, index 5, offset 1300, size 0", frame(1, CHUNK, 5, 1300, 0))
+    b.packet("the same again", frame(1, CHUNK, 5, 1300, 0))
+    b = Bench()
+    b.quiet(frame(1, INIT, 32500))
+    for i in range(25):
+        b.quiet(frame(1, CHUNK, i, 0, 250))
+    b.packet("chunk at a new index, no cell free", frame(1, CHUNK, 25, 0, 250))
+    b.packet("chunk at a held index, no cell free", frame(1, CHUNK, 24, 0, 251))
+    b.packet("init again", frame(1, INIT, 32500))
+    b.packet("chunk at a new index", frame(1, CHUNK, 25, 0, 250))
+
+
+def dones():
+    b = Bench()
+    b.packet("done of an unknown id", frame(1, DONE, 2))
+    b.quiet(frame(1, INIT, 1550))
+    b.quiet(frame(1, CHUNK, 1, 1300, 250))
+    b.packet("done, count 1 of 2", frame(1, DONE, 1))
+    b.packet("done, piece 0 is missing", frame(1, DONE, 2))
+    b.quiet(frame(1, CHUNK, 0, 0, 1299))
+    b.packet("done, piece 0 is a byte too short", frame(1, DONE, 2))
+    b.quiet(frame(1, CHUNK, 0, 0, 1300))
+    b.packet("done, another sum", frame(1, DONE, 2))
+    b = Bench()
+    b.quiet(frame(1, INIT, 0))
+    b.packet("done, no key", done_frame(1, b""), known=0)
+    b.packet("done", done_frame(1, b""))
+    b.packet("done of a whole id", done_frame(1, b""))
+    b.packet("init of a whole id", frame(1, INIT, 0))
+    b.packet("chunk of a whole id", frame(1, CHUNK))
+    b.packet("aborted of a whole id", frame(1, ABORTED))
+
+
+def acks():
+    b = Bench()
+    for what in ("unknown id", "state 0 and then 1", "state 1 and then 2", "state 2 and then 3", "state 3"):
+        print("acknowledgements, " + what)
+        b.packet("  read", frame(1, READ))
+        b.packet("  ack chunk 1", frame(1, CHUNK | ACK, 1))
+        b.packet("  ack chunk 0", frame(1, CHUNK | ACK, 0))
+        b.packet("  ack done", frame(1, DONE | ACK))
+        b.packet("  ack init", frame(1, INIT | ACK))
+        if what == "unknown id":
+            b.pushed(1)
+
+
+def message_values():
+    values()
+    flags("flags, fresh stores:", False)
+    flags("flags, arriving, and leaving in state 1:", True)
+    for group in (rooms, stores, sends, inits, chunks, dones, acks):
+        group()
+
+
+def vectors(path):
+    for line in open(path):
+        length, digest = line.split()
+        assert blake3(bytes(i % 251 for i in range(int(length)))).hex() == digest, line
+    print("all vectors are right")
+
+
+if __name__ == "__main__":
+    globals()[sys.argv[1]](*sys.argv[2:])

@@ -1,0 +1,141 @@
+//! The calls, with their arguments, and what comes back: from the library and from the original in the same form.
+
+use std::collections::BTreeSet;
+
+/// A message's id.
+pub type Id = [u8; 8];
+
+/// An IPv6 address.
+pub type Address = [u8; 16];
+
+/// The bytes of a frame.
+pub const FRAME: usize = 1400;
+
+/// The flag that marks an acknowledgement, in a packet's byte 8.
+pub const ACK: u8 = 0x01;
+
+/// A packet on its way.
+#[derive(Clone, Debug, PartialEq, Eq)]
+pub struct Packet {
+    pub from: Address,
+    pub to: Address,
+    pub bytes: Vec<u8>,
+}
+
+impl Packet {
+    /// The id in its header.
+    pub fn id(&self) -> Id {
+        self.bytes[..8].try_into().expect("a packet has a header")
+    }
+
+    /// The flags in its header.
+    pub fn flags(&self) -> u8 {
+        self.bytes[8]
+    }
+}
+
+/// A message to be sent.
+#[derive(Clone, Debug, PartialEq, Eq)]
+pub struct Push {
+    pub id: Id,
+    pub reply: bool,
+    pub to: Address,
+    pub topic: Vec<u8>,
+    pub data: Vec<u8>,
+    pub created: u64,
+    pub try_ms: u64,
+}
+
+/// How a node is set up: its key, and the cells of its two stores.
+#[derive(Clone, Debug, PartialEq, Eq)]
+pub struct Setup {
+    pub key: [u8; 32],
+    pub recv_cells: usize,
+    pub send_cells: usize,
+}
+
+/// The two kinds of wake.
+#[derive(Clone, Copy, Debug, PartialEq, Eq)]
+pub enum Wake {
+    Send = 1,
+    Deadline = 2,
+}
+
+/// One call on a node.
+#[derive(Clone, Debug, PartialEq, Eq)]
+pub enum Call {
+    /// The rule book that packets are handled with from here on.
+    Rules(Vec<u8>),
+    /// The addresses whose key is known from here on.
+    Known(BTreeSet<Address>),
+    Push(Push),
+    /// A frame that arrived: 1,400 bytes.
+    Packet(Packet),
+    Wake(Wake, Id, u64),
+    Report(Id),
+    Take,
+}
+
+/// How far a message is.
+#[derive(Clone, Debug, PartialEq, Eq)]
+pub struct Report {
+    pub to: Address,
+    pub state: u8,
+    /// How many pieces are Started, Sent and Acked.
+    pub pieces: [u64; 3],
+    pub created_s: u64,
+    pub end_s: u64,
+    pub length: u64,
+}
+
+/// A message that was taken.
+#[derive(Clone, Debug, PartialEq, Eq)]
+pub struct Taken {
+    pub id: Id,
+    pub reply: bool,
+    pub from: Address,
+    pub to: Address,
+    pub topic: Vec<u8>,
+    pub data: Vec<u8>,
+}
+
+/// Whether all senders woke after a packet. It shows only where a sender then has something to send.
+#[derive(Clone, Copy, Debug, PartialEq, Eq)]
+pub enum Woke {
+    Yes,
+    No,
+    Unseen,
+}
+
+pub const UNKNOWN_ID: u64 = 8;
+pub const NO_WORK: u64 = 20;
+pub const TOPIC_TOO_LARGE: u64 = 21;
+pub const NONE_WHOLE: u64 = 23;
+
+/// What the original put out after a call.
+#[derive(Clone, Debug, PartialEq, Eq, Default)]
+pub struct Said {
+    /// The refusal's number for what the original said or did not find; 0 if it did the call.
+    pub number: u64,
+    pub packets: Vec<Packet>,
+    pub woke: Option<Woke>,
+    pub report: Option<Report>,
+    pub taken: Option<Taken>,
+}
+
+/// What the library answered to a call.
+#[derive(Clone, Debug, PartialEq, Eq, Default)]
+pub struct Got {
+    pub number: u64,
+    pub wake: u64,
+    pub packets: Vec<Packet>,
+    pub report: Option<Report>,
+    pub taken: Option<Taken>,
+}
+
+impl Got {
+    /// Whether the number is one that the original does not have: such a call is outside the comparison.
+    pub fn is_added_refusal(&self) -> bool {
+        matches!(self.number, 1..=3 | 6 | 7 | 12 | 22..=25)
+    }
+}

@@ -1,0 +1,150 @@
+//! What a comparison has met, so that a run that meets nothing is not taken for one that finds nothing.
+
+use std::collections::{BTreeMap, BTreeSet};
+
+use crate::call::{Call, Said, Wake, Woke, TOPIC_TOO_LARGE};
+use crate::live::frame::{self, Kind};
+
+#[derive(Default)]
+pub struct Coverage {
+    /// Calls compared, by what came out.
+    calls: BTreeMap<&'static str, u64>,
+    /// What else was seen.
+    seen: BTreeMap<&'static str, u64>,
+    /// The numbers of compared packets.
+    numbers: BTreeMap<u64, u64>,
+    flags: BTreeSet<u8>,
+    /// Lengths of messages taken.
+    lengths: BTreeSet<usize>,
+    /// Calls that lie outside what the original can be asked, by why; they are not compared.
+    outside: BTreeMap<String, u64>,
+}
+
+/// Lengths where the protocol's arithmetic turns.
+pub const BOUNDARY_LENGTHS: [usize; 11] = [0, 1, 249, 250, 251, 1299, 1300, 1301, 1550, 32_499, 32_500];
+
+/// What a full run must have met at least once.
+const NEEDED: [&str; 21] = [
+    "push",
+    "push, topic too large",
+    "reply pushed",
+    "init acknowledged",
+    "chunk acknowledged",
+    "done acknowledged",
+    "packet unanswered",
+    "senders seen to wake",
+    "senders seen to sleep on",
+    "send wake, nothing",
+    "send wake, init",
+    "send wake, one piece",
+    "send wake, more pieces",
+    "send wake, done",
+    "clock gone back",
+    "deadline, aborted",
+    "deadline, nothing",
+    "report",
+    "report of an unknown id",
+    "take",
+    "address",
+];
+
+impl Coverage {
+    /// Something was seen that is no call.
+    pub fn saw(&mut self, what: &'static str) {
+        *self.seen.entry(what).or_default() += 1;
+    }
+
+    /// A call was left out.
+    pub fn outside(&mut self, why: String) {
+        *self.outside.entry(why).or_default() += 1;
+    }
+
+    /// How many calls were compared.
+    pub fn calls(&self) -> u64 {
+        self.calls.values().sum()
+    }
+
+    /// A call was compared.
+    pub fn add(&mut self, call: &Call, said: &Said) {
+        let what = match call {
+            Call::Rules(_) | Call::Known(_) => return,
+            Call::Push(_) if said.number == TOPIC_TOO_LARGE => "push, topic too large",
+            Call::Push(push) if push.reply => "reply pushed",
+            Call::Push(_) => "push",
+            Call::Packet(packet) => {
+                *self.numbers.entry(said.number).or_default() += 1;
+                self.flags.insert(packet.flags());
+                match said.woke {
+                    Some(Woke::Yes) => self.saw("senders seen to wake"),
+                    Some(Woke::No) => self.saw("senders seen to sleep on"),
+                    _ => {}
+                }
+                match frame::kind(packet.flags()) {
+                    _ if said.packets.is_empty() => "packet unanswered",
+                    Kind::Init => "init acknowledged",
+                    Kind::Chunk => "chunk acknowledged",
+                    _ => "done acknowledged",
+                }
+            }
+            Call::Wake(Wake::Send, ..) => match said.packets.first().map(|p| frame::kind(p.flags())) {
+                None => "send wake, nothing",
+                Some(Kind::Init) => "send wake, init",
+                Some(Kind::Done) => "send wake, done",
+                Some(_) if said.packets.len() == 1 => "send wake, one piece",
+                Some(_) => "send wake, more pieces",
+            },
+            Call::Wake(Wake::Deadline, ..) if said.packets.is_empty() => "deadline, nothing",
+            Call::Wake(Wake::Deadline, ..) => "deadline, aborted",
+            Call::Report(_) if said.report.is_none() => "report of an unknown id",
+            Call::Report(_) => "report",
+            Call::Take => {
+                self.lengths.extend(said.taken.iter().map(|taken| taken.data.len()));
+                "take"
+            }
+        };
+        *self.calls.entry(what).or_default() += 1;
+    }
+
+    /// What a full run should have met and this one has not.
+    pub fn missing(&self) -> Vec<String> {
+        let mut missing: Vec<String> = NEEDED
+            .iter()
+            .filter(|what| !self.calls.contains_key(*what) && !self.seen.contains_key(*what))
+            .map(|what| what.to_string())
+            .collect();
+        missing.extend(
+            (4..=20)
+                .filter(|n| ![6, 7, 12].contains(n) && !self.numbers.contains_key(n))
+                .map(|n| format!("a packet answered {n}")),
+        );
+        if self.flags.len() < 256 {
+            missing.push(format!("{} of 256 flag bytes", 256 - self.flags.len()));
+        }
+        missing.extend(
+            BOUNDARY_LENGTHS
+                .iter()
+                .filter(|length| !self.lengths.contains(length))
+                .map(|length| format!("a message of {length} bytes taken")),
+        );
+        missing
+    }
+
+    /// The counts as text, a line each.
+    pub fn lines(&self) -> String {
+        let mut text = String::new();
+        for (what, times) in self.calls.iter().chain(&self.seen) {
+            text.push_str(&format!("  {times:>9}  {what}\n"));
+        }
+        let row = |of: Vec<(String, &u64)>| {
+            of.iter().map(|(what, times)| format!("{what}: {times}")).collect::<Vec<_>>().join(", ")
+        };
+        let numbers = row(self.numbers.iter().map(|(number, times)| (number.to_string(), times)).collect());
+        let outside = row(self.outside.iter().map(|(why, times)| (why.clone(), times)).collect());
+        text.push_str(&format!(
+            "  {} flag bytes, {} lengths of messages taken\n",
+            self.flags.len(),
+            self.lengths.len()
+        ));
+        text + &format!("  packets by number: {numbers}\n  not compared: {outside}\n")
+    }
+}

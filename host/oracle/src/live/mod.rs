@@ -1,0 +1,15 @@
+//! The comparison with the original as it runs; built only where the original is at hand.
+
+mod clock;
+pub mod compare;
+pub mod coverage;
+pub mod fault;
+mod frame;
+mod plan;
+mod rng;
+mod rules;
+mod run;
+pub mod samples;
+mod stack;
+mod tally;
+mod words;

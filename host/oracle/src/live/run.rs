@@ -1,0 +1,300 @@
+//! Runs the library and the original side by side on a sequence of steps and holds each answer against the other.
+
+use crate::call::{Call, Got, Id, Packet, Said, Setup, Wake, Woke, ACK};
+use crate::judge::judge;
+use crate::library::Node;
+use crate::list::{Entry, List};
+use crate::live::clock;
+use crate::live::coverage::Coverage;
+use crate::live::fault::Fault;
+use crate::live::frame::{self, Kind};
+use crate::live::stack::{self, Original};
+use crate::live::tally::Tally;
+use crate::live::words;
+
+/// What is done to both sides.
+pub enum Step {
+    /// A call other than a wake, at the time that the clock shows.
+    Call(Call),
+    /// A packet while the clock has gone back by so many milliseconds.
+    Back(u64, Packet),
+    /// The clock moves on to this time, and timers go off.
+    Clock(u64),
+}
+
+/// A difference: what it is, and the calls up to it.
+pub struct Difference {
+    pub why: String,
+    pub calls: List,
+}
+
+/// Both sides of a sequence.
+pub struct Run<'a> {
+    setup: Setup,
+    node: Node,
+    original: Original,
+    pub tally: Tally,
+    pub clock: u64,
+    entries: Vec<Entry>,
+    coverage: &'a mut Coverage,
+    fault: Option<Fault>,
+}
+
+impl<'a> Run<'a> {
+    /// Both sides fresh, at this time.
+    pub fn new(
+        setup: Setup,
+        clock: u64,
+        coverage: &'a mut Coverage,
+        fault: Option<Fault>,
+    ) -> Result<Self, Difference> {
+        clock::set(clock);
+        let theirs = stack::address(&setup.key);
+        let failed = |why: String| Difference {
+            why,
+            calls: List { setup: setup.clone(), address: theirs, entries: Vec::new() },
+        };
+        let node = Node::new(&setup).map_err(|number| failed(format!("setup is refused with {number}")))?;
+        if node.address() != theirs {
+            return Err(failed(format!(
+                "the library's address of the key is {:?}, the original's {theirs:?}",
+                node.address()
+            )));
+        }
+        coverage.saw("address");
+        let (original, tally) = (Original::new(&setup), Tally::new(&setup));
+        Ok(Self { setup, node, original, tally, clock, entries: Vec::new(), coverage, fault })
+    }
+
+    /// The calls so far, with what the original put out.
+    pub fn into_list(self) -> List {
+        List { address: self.node.address(), setup: self.setup, entries: self.entries }
+    }
+
+    /// Does a step on both sides and gives the packets that the original sent.
+    pub fn step(&mut self, step: Step) -> Result<Vec<Packet>, Difference> {
+        let sent = match step {
+            Step::Call(call) => self.call(call),
+            Step::Back(by, packet) => self.back(by, packet),
+            Step::Clock(to) => self.clock(to),
+        }?;
+        let leaving: Vec<Id> = self.tally.leaving.keys().copied().collect();
+        for id in leaving {
+            self.report(id)?;
+        }
+        Ok(sent)
+    }
+
+    fn call(&mut self, call: Call) -> Result<Vec<Packet>, Difference> {
+        if wraps(&call) {
+            self.coverage.outside("offset and size past 2^64".to_string());
+            return Ok(Vec::new());
+        }
+        let got = self.node.call(&call);
+        if got.is_added_refusal() {
+            if !self.tally.has_reason(&call, got.number) {
+                return Err(self.differ(
+                    call,
+                    Said::default(),
+                    format!("the library answers {} without reason", got.number),
+                ));
+            }
+            self.coverage.outside(format!("answered {}", got.number));
+            return Ok(Vec::new());
+        }
+        let mut said = match (self.fault, &call) {
+            (Some(Fault::Take), Call::Take) if self.tally.whole.len() > 1 => {
+                self.original.call(&Call::Take);
+                self.original.call(&Call::Take)
+            }
+            _ => self.original.call(&call),
+        };
+        let sent = said.packets.clone();
+        let woken = match &call {
+            Call::Packet(packet) => {
+                let woken = self.split_off_woken(packet, &mut said);
+                said.number = self.tally.number(packet, &said.packets, words::last_refusal());
+                woken
+            }
+            _ => Vec::new(),
+        };
+        if let Some(fault) = self.fault {
+            fault.spoil(&call, &mut said);
+        }
+        let wake = got.wake == 1;
+        self.keep(call.clone(), &got, said.clone())?;
+        match &call {
+            Call::Push(push) if said.number == 0 => self.tally.pushed(push, self.clock),
+            Call::Packet(packet) => {
+                self.tally.handled(packet, &said);
+                if wake {
+                    self.wake_all(&woken)?;
+                }
+            }
+            Call::Take => said.taken.iter().for_each(|taken| self.tally.taken(taken)),
+            _ => {}
+        }
+        Ok(sent)
+    }
+
+    /// Leaves the reply to a packet in what the original said, and gives what its senders sent after it; notes whether they woke, if that shows.
+    fn split_off_woken(&self, packet: &Packet, said: &mut Said) -> Vec<Packet> {
+        let is_reply = |p: &Packet| p.flags() & ACK != 0 && p.id() == packet.id();
+        let (replies, woken): (Vec<Packet>, Vec<Packet>) = said.packets.drain(..).partition(is_reply);
+        said.packets = replies;
+        let would_send = || {
+            let mut node = self.node.clone();
+            self.tally
+                .leaving
+                .keys()
+                .any(|id| !node.call(&Call::Wake(Wake::Send, *id, self.clock)).packets.is_empty())
+        };
+        said.woke = match (woken.is_empty(), self.tally.leaving.is_empty()) {
+            (false, _) => Some(Woke::Yes),
+            (true, false) if would_send() => Some(Woke::No),
+            (true, _) => Some(Woke::Unseen),
+        };
+        woken
+    }
+
+    /// The messages that leave; what the original's senders sent must be of those.
+    fn senders(&mut self, sent: &[Packet]) -> Result<Vec<Id>, Difference> {
+        let ids: Vec<Id> = self.tally.leaving.keys().copied().collect();
+        match sent.iter().find(|packet| !ids.contains(&packet.id())) {
+            None => Ok(ids),
+            Some(packet) => {
+                let said = Said { packets: vec![packet.clone()], ..Said::default() };
+                let why = "the original sends for a message that does not leave".to_string();
+                Err(self.differ(Call::Wake(Wake::Send, packet.id(), self.clock), said, why))
+            }
+        }
+    }
+
+    /// Wakes every sender of the library, as the mark asks; the original's have sent `woken`.
+    fn wake_all(&mut self, woken: &[Packet]) -> Result<(), Difference> {
+        for id in self.senders(woken)? {
+            self.wake(Wake::Send, id, of(woken, &id))?;
+        }
+        Ok(())
+    }
+
+    fn back(&mut self, by: u64, packet: Packet) -> Result<Vec<Packet>, Difference> {
+        let now = self.clock;
+        self.clock = now.saturating_sub(by);
+        clock::set(self.clock);
+        self.coverage.saw("clock gone back");
+        let sent = self.call(Call::Packet(packet));
+        self.clock = now;
+        clock::set(now);
+        sent
+    }
+
+    /// Moves the clock on; the timers of each sender go off as the original's task has set them.
+    fn clock(&mut self, to: u64) -> Result<Vec<Packet>, Difference> {
+        self.clock = to;
+        clock::set(to);
+        let sent = self.original.run();
+        for id in self.senders(&sent)? {
+            let due = self.tally.due(&id, to);
+            let mut pieces = of(&sent, &id);
+            let aborts = pieces.last().is_some_and(|p| frame::kind(p.flags()) == Kind::Aborted);
+            let aborted = pieces.split_off(pieces.len() - usize::from(aborts));
+            // Where both timers are due, the original picks either first: a sender that has timed out sends nothing more.
+            let send_first = due.tick && (due.deadlines == 0 || !pieces.is_empty());
+            if due.tick && due.deadlines > 0 {
+                self.coverage.saw(if send_first {
+                    "tick before deadline"
+                } else {
+                    "tick after deadline, or with nothing to send"
+                });
+            }
+            if send_first {
+                self.wake(Wake::Send, id, pieces)?;
+            } else if !pieces.is_empty() {
+                let why = "the original woke while its timers were not due".to_string();
+                return Err(self.differ(
+                    Call::Wake(Wake::Send, id, to),
+                    Said { packets: pieces, ..Said::default() },
+                    why,
+                ));
+            }
+            if due.deadlines == 0 && !aborted.is_empty() {
+                let why = "the original gave up while its deadline was not due".to_string();
+                return Err(self.differ(
+                    Call::Wake(Wake::Deadline, id, to),
+                    Said { packets: aborted, ..Said::default() },
+                    why,
+                ));
+            }
+            let mut aborted = Some(aborted);
+            for _ in 0..due.deadlines {
+                self.wake(Wake::Deadline, id, aborted.take().unwrap_or_default())?;
+            }
+            if due.deadlines > 0 && !self.tally.leaving.contains_key(&id) {
+                self.report(id)?;
+            }
+        }
+        Ok(sent)
+    }
+
+    fn wake(&mut self, kind: Wake, id: Id, packets: Vec<Packet>) -> Result<(), Difference> {
+        let call = Call::Wake(kind, id, self.clock);
+        let got = self.node.call(&call);
+        let mut said = Said { packets, ..Said::default() };
+        if let Some(fault) = self.fault {
+            fault.spoil(&call, &mut said);
+        }
+        self.keep(call, &got, said)
+    }
+
+    /// Compares the reports on a message, without a place in the list if they agree.
+    fn report(&mut self, id: Id) -> Result<(), Difference> {
+        let call = Call::Report(id);
+        let (got, mut said) = (self.node.call(&call), self.original.call(&call));
+        if let Some(fault) = self.fault {
+            fault.spoil(&call, &mut said);
+        }
+        self.judge(call, &got, said).map(|_| ())
+    }
+
+    /// Judges a call and keeps it in the list.
+    fn keep(&mut self, call: Call, got: &Got, said: Said) -> Result<(), Difference> {
+        let entry = self.judge(call, got, said)?;
+        self.entries.push(entry);
+        Ok(())
+    }
+
+    /// Judges a call.
+    fn judge(&mut self, call: Call, got: &Got, said: Said) -> Result<Entry, Difference> {
+        match judge(got, &said) {
+            Ok(()) => {
+                self.coverage.add(&call, &said);
+                Ok(Entry { call, said })
+            }
+            Err(why) => Err(self.differ(call, said, why)),
+        }
+    }
+
+    fn differ(&mut self, call: Call, said: Said, why: String) -> Difference {
+        let mut entries = std::mem::take(&mut self.entries);
+        entries.push(Entry { call, said });
+        Difference { why, calls: List { address: self.node.address(), setup: self.setup.clone(), entries } }
+    }
+}
+
+/// The packets of one message.
+fn of(packets: &[Packet], id: &Id) -> Vec<Packet> {
+    packets.iter().filter(|packet| packet.id() == *id).cloned().collect()
+}
+
+/// Whether a chunk's offset and size add up past 2^64, where the original's arithmetic wraps.
+fn wraps(call: &Call) -> bool {
+    match call {
+        Call::Packet(p) if p.flags() & ACK == 0 && frame::kind(p.flags()) == Kind::Chunk => {
+            frame::field(&p.bytes, 1)
+                .checked_add(frame::field(&p.bytes, 2).min(frame::LARGEST_PIECE))
+                .is_none()
+        }
+        _ => false,
+    }
+}

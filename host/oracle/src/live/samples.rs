@@ -1,0 +1,114 @@
+//! The lists in tests/original: sequences for which the original's answers are kept.
+
+use std::collections::BTreeSet;
+
+use crate::call::{Address, Call, Id, Packet, Push, Setup, FRAME};
+use crate::list::List;
+use crate::live::compare;
+use crate::live::coverage::{Coverage, BOUNDARY_LENGTHS};
+use crate::live::frame;
+use crate::live::run::{Difference, Run, Step};
+use crate::live::{clock, stack};
+
+const PEER: Address = [0x42; 16];
+const START: u64 = 1_000_000;
+const RANDOM_STEPS: u64 = 120;
+/// A random list that is kept is at most so large.
+const RANDOM_BYTES: usize = 45_000;
+/// Every number that the original has a counterpart for, but 23.
+const NUMBERS: [u64; 16] = [0, 4, 5, 8, 9, 10, 11, 13, 14, 15, 16, 17, 18, 19, 20, 21];
+
+/// Each list with its name: two made by hand, and random ones until every number has come up in those.
+pub fn samples() -> Result<Vec<(String, List)>, Difference> {
+    let mut samples = vec![("lengths".to_string(), lengths()?), ("flags".to_string(), flags()?)];
+    let mut wanted = BTreeSet::from(NUMBERS);
+    for seed in 1.. {
+        let list = compare::one(seed, RANDOM_STEPS, &mut Coverage::default(), None)?;
+        let numbers: BTreeSet<u64> = list.entries.iter().map(|entry| entry.said.number).collect();
+        if !wanted.is_disjoint(&numbers) && list.write().len() <= RANDOM_BYTES {
+            wanted.retain(|number| !numbers.contains(number));
+            samples.push((format!("random-{seed}"), list));
+        }
+        if wanted.is_empty() {
+            break;
+        }
+    }
+    clock::release();
+    Ok(samples)
+}
+
+fn setup() -> Setup {
+    Setup { key: [7; 32], recv_cells: 45, send_cells: 45 }
+}
+
+fn push(number: usize, length: usize) -> Push {
+    let data = (0..length).map(|at| (at / 100 + number) as u8).collect();
+    Push {
+        id: [number as u8; 8],
+        reply: number % 3 == 2,
+        to: PEER,
+        topic: vec![b't'; if number % 3 == 2 { 0 } else { number }],
+        data,
+        created: 1_700_000_000_999,
+        try_ms: 1,
+    }
+}
+
+fn framed(packet: &Packet) -> Packet {
+    let mut bytes = packet.bytes.clone();
+    bytes.resize(FRAME, 0);
+    Packet { bytes, ..packet.clone() }
+}
+
+/// Messages of the boundary lengths over a good link, and what becomes of each: taken, or given up at its deadline.
+fn lengths() -> Result<List, Difference> {
+    let (setup, mut coverage) = (setup(), Coverage::default());
+    let me = stack::address(&setup.key);
+    let mut run = Run::new(setup, START, &mut coverage, None)?;
+    run.step(Step::Call(Call::Known([me].into())))?;
+    for (number, length) in BOUNDARY_LENGTHS.into_iter().enumerate() {
+        let message = push(number + 1, length);
+        let id = message.id;
+        let mut in_flight = run.step(Step::Call(Call::Push(message)))?;
+        // two ticks with nothing on the way: all that can arrive has
+        for _ in 0..2 {
+            while !in_flight.is_empty() {
+                let packet = framed(&in_flight.remove(0));
+                in_flight.extend(run.step(Step::Call(Call::Packet(packet)))?);
+            }
+            run.step(Step::Call(Call::Report(id)))?;
+            in_flight = run.step(Step::Clock(run.clock + 100))?;
+        }
+        for packet in run.step(Step::Call(Call::Take))? {
+            run.step(Step::Call(Call::Packet(framed(&packet))))?;
+        }
+        run.step(Step::Call(Call::Report(id)))?;
+        for _ in 0..2 {
+            for packet in run.step(Step::Clock(run.clock + 300_000))? {
+                run.step(Step::Call(Call::Packet(framed(&packet))))?;
+            }
+            run.step(Step::Call(Call::Report(id)))?;
+        }
+    }
+    Ok(run.into_list())
+}
+
+/// Every flag byte, on an id that both arrives and leaves, with a body that is a piece of it.
+fn flags() -> Result<List, Difference> {
+    let (setup, mut coverage) = (setup(), Coverage::default());
+    let me = stack::address(&setup.key);
+    let mut run = Run::new(setup, START, &mut coverage, None)?;
+    run.step(Step::Call(Call::Known([me, PEER].into())))?;
+    let id: Id = [1; 8];
+    run.step(Step::Call(Call::Push(push(1, 2600))))?;
+    for flags in 0..=u8::MAX {
+        let mut bytes = frame::chunk(id, 0, u64::from(flags) % 3, 0, 300, &[flags; 300]);
+        bytes[8] = flags;
+        run.step(Step::Call(Call::Packet(framed(&Packet { from: PEER, to: me, bytes }))))?;
+        if flags % 16 == 15 {
+            run.step(Step::Clock(run.clock + 50))?;
+            run.step(Step::Call(Call::Report(id)))?;
+        }
+    }
+    Ok(run.into_list())
+}

@@ -1,0 +1,287 @@
+//! What the comparison itself knows of a node, from the original's answers alone: which messages leave, arrive and are whole, and when timers are due.
+//! A refusal that the original does not have must have its reason here.
+
+use std::collections::BTreeMap;
+
+use crate::call::{Call, Id, Packet, Push, Said, Setup, Taken, ACK, UNKNOWN_ID};
+use crate::live::frame::{self, Kind};
+
+const RECORDS: usize = 8;
+const LONGEST: u64 = 32_500;
+const CUT: usize = 1300;
+const TICK: u64 = 100;
+const DEADLINE: u64 = 300_000;
+
+/// A message that leaves, with the timers of its sender.
+pub struct Leaving {
+    cells: usize,
+    /// The length, for packets made by hand.
+    pub length: usize,
+    next_tick: u64,
+    next_deadline: u64,
+    deadlines: usize,
+}
+
+/// Which of a sender's timers are due.
+#[derive(Clone, Copy, PartialEq, Eq)]
+pub struct Due {
+    pub tick: bool,
+    pub deadlines: usize,
+}
+
+/// A message that arrives.
+#[derive(Default)]
+pub struct Arriving {
+    pub length: u64,
+    pub pieces: BTreeMap<u64, Vec<u8>>,
+}
+
+impl Arriving {
+    /// The pieces joined by index.
+    pub fn joined(&self) -> Vec<u8> {
+        self.pieces.values().flatten().copied().collect()
+    }
+
+    /// How many pieces a done must count.
+    pub fn slots(&self) -> u64 {
+        let highest = self.pieces.keys().next_back().map_or(0, |index| index + 1);
+        highest.max(self.length.div_ceil(CUT as u64))
+    }
+}
+
+pub struct Tally {
+    recv_cells: usize,
+    send_cells: usize,
+    pub leaving: BTreeMap<Id, Leaving>,
+    pub arriving: BTreeMap<Id, Arriving>,
+    /// The cells of each whole message.
+    pub whole: BTreeMap<Id, usize>,
+}
+
+impl Tally {
+    pub fn new(setup: &Setup) -> Self {
+        Self {
+            recv_cells: setup.recv_cells,
+            send_cells: setup.send_cells,
+            leaving: BTreeMap::new(),
+            arriving: BTreeMap::new(),
+            whole: BTreeMap::new(),
+        }
+    }
+
+    /// Whether the call gives a reason to answer with this number, which the original does not have.
+    pub fn has_reason(&self, call: &Call, number: u64) -> bool {
+        match call {
+            Call::Push(push) => self.push_reason(push, number),
+            Call::Packet(packet) => self.packet_reason(packet, number),
+            Call::Take => number == 23 && self.whole.is_empty(),
+            _ => false,
+        }
+    }
+
+    fn push_reason(&self, push: &Push, number: u64) -> bool {
+        let used: usize = self.leaving.values().map(|m| m.cells).sum();
+        match number {
+            6 => push.data.len() as u64 > LONGEST,
+            7 => self.leaving.len() == RECORDS,
+            12 => used + cells(push) > self.send_cells,
+            22 => self.leaving.contains_key(&push.id),
+            24 => push.created.checked_add(push.try_ms).is_none(),
+            _ => false,
+        }
+    }
+
+    fn packet_reason(&self, packet: &Packet, number: u64) -> bool {
+        let (id, frame) = (packet.id(), &packet.bytes);
+        let used: usize =
+            self.arriving.values().map(|m| m.pieces.len()).chain(self.whole.values().copied()).sum();
+        match (number, frame::kind(packet.flags()), packet.flags() & ACK) {
+            (6, Kind::Init, 0) => frame::field(frame, 0) > LONGEST,
+            (7, Kind::Init, 0) => {
+                self.arriving.len() + self.whole.len() == RECORDS && !self.arriving.contains_key(&id)
+            }
+            (12, Kind::Chunk, 0) => {
+                used == self.recv_cells
+                    && self.arriving.get(&id).is_some_and(|m| !m.pieces.contains_key(&frame::field(frame, 0)))
+            }
+            _ => false,
+        }
+    }
+
+    /// The number of what the original did with a packet: by its own words, else by its replies, else by what it holds, of which it says nothing.
+    pub fn number(&self, packet: &Packet, replies: &[Packet], said: Option<u64>) -> u64 {
+        let (id, ack) = (packet.id(), packet.flags() & ACK != 0);
+        let found = match (frame::kind(packet.flags()), ack) {
+            _ if !replies.is_empty() => true,
+            (Kind::Init | Kind::Chunk | Kind::Done, true) | (Kind::Read, false) => {
+                self.leaving.contains_key(&id)
+            }
+            (Kind::Aborted, false) => self.arriving.contains_key(&id),
+            _ => false,
+        };
+        said.unwrap_or(if found { 0 } else { UNKNOWN_ID })
+    }
+
+    /// A push that the original took, at this time.
+    pub fn pushed(&mut self, push: &Push, clock: u64) {
+        let new = Leaving {
+            cells: cells(push),
+            length: push.data.len(),
+            next_tick: clock + TICK,
+            next_deadline: clock + DEADLINE,
+            deadlines: 0,
+        };
+        self.leaving.insert(push.id, new);
+    }
+
+    /// A packet that came in, and what the original put out for it.
+    pub fn handled(&mut self, packet: &Packet, said: &Said) {
+        let (id, frame) = (packet.id(), &packet.bytes);
+        if packet.flags() & ACK != 0 {
+            return;
+        }
+        match (frame::kind(packet.flags()), said.packets.is_empty()) {
+            (Kind::Init, false) => {
+                self.arriving
+                    .insert(id, Arriving { length: frame::field(frame, 0), pieces: BTreeMap::new() });
+            }
+            (Kind::Chunk, false) => {
+                self.arriving
+                    .entry(id)
+                    .or_default()
+                    .pieces
+                    .insert(frame::field(frame, 0), frame::piece(frame).to_vec());
+            }
+            (Kind::Done, false) => {
+                let pieces = self.arriving.remove(&id).map_or(0, |m| m.pieces.len());
+                self.whole.insert(id, pieces);
+            }
+            (Kind::Aborted, _) => {
+                self.arriving.remove(&id);
+            }
+            _ => {}
+        }
+    }
+
+    /// A message that was taken.
+    pub fn taken(&mut self, taken: &Taken) {
+        self.whole.remove(&taken.id);
+    }
+
+    /// Which timers of a sender are due at this time; they are set for their next time.
+    pub fn due(&mut self, id: &Id, clock: u64) -> Due {
+        let m = self.leaving.get_mut(id).expect("the sender of a message that leaves");
+        let tick = m.next_tick <= clock;
+        if tick {
+            m.next_tick = clock + TICK - (clock - m.next_tick) % TICK;
+        }
+        let mut deadlines = 0;
+        while m.next_deadline <= clock && m.deadlines < 2 {
+            m.next_deadline += DEADLINE;
+            m.deadlines += 1;
+            deadlines += 1;
+        }
+        if m.deadlines == 2 {
+            self.leaving.remove(id);
+        }
+        Due { tick, deadlines }
+    }
+
+    /// When a sender's deadline is due next.
+    pub fn next_deadline(&self, id: &Id) -> Option<u64> {
+        self.leaving.get(id).map(|m| m.next_deadline)
+    }
+}
+
+fn cells(push: &Push) -> usize {
+    push.data.len().div_ceil(CUT)
+}
+
+#[cfg(test)]
+mod tests {
+    use super::*;
+    use crate::call::FRAME;
+
+    fn tally() -> Tally {
+        Tally::new(&Setup { key: [0; 32], recv_cells: 2, send_cells: 3 })
+    }
+
+    fn push(id: u8, length: usize) -> Push {
+        Push {
+            id: [id; 8],
+            reply: false,
+            to: [0; 16],
+            topic: vec![],
+            data: vec![0; length],
+            created: 5,
+            try_ms: 5,
+        }
+    }
+
+    fn packet(mut bytes: Vec<u8>) -> Packet {
+        bytes.resize(FRAME, 0);
+        Packet { from: [0; 16], to: [0; 16], bytes }
+    }
+
+    fn replied() -> Said {
+        Said { packets: vec![packet(vec![])], ..Said::default() }
+    }
+
+    #[test]
+    fn a_refused_push_needs_its_reason() {
+        let mut tally = tally();
+        tally.pushed(&push(1, 1301), 0);
+        let has = |push: Push, number| tally.has_reason(&Call::Push(push), number);
+        assert!(has(push(1, 0), 22) && !has(push(2, 0), 22));
+        assert!(has(push(2, 1301), 12) && !has(push(2, 1300), 12));
+        assert!(has(push(2, 32_501), 6) && !has(push(2, 32_500), 6));
+        assert!(has(Push { created: u64::MAX, ..push(2, 0) }, 24) && !has(push(2, 0), 24));
+        assert!(!has(push(2, 0), 7) && !has(push(2, 0), 25) && !has(push(2, 0), 2));
+        for id in 2..=8 {
+            tally.pushed(&push(id, 0), 0);
+        }
+        assert!(tally.has_reason(&Call::Push(push(9, 0)), 7));
+    }
+
+    #[test]
+    fn a_refused_packet_needs_its_reason() {
+        let mut tally = tally();
+        let chunk = |index| packet(frame::chunk([1; 8], 0, index, 0, 300, &[]));
+        tally.handled(&packet(frame::init([1; 8], 0, 2000, &[])), &replied());
+        tally.handled(&chunk(0), &replied());
+        assert!(!tally.has_reason(&Call::Packet(chunk(1)), 12));
+        tally.handled(&chunk(1), &replied());
+        assert!(
+            tally.has_reason(&Call::Packet(chunk(2)), 12) && !tally.has_reason(&Call::Packet(chunk(1)), 12)
+        );
+        let init = |id, length| Call::Packet(packet(frame::init([id; 8], 0, length, &[])));
+        assert!(tally.has_reason(&init(1, 32_501), 6) && !tally.has_reason(&init(1, 32_500), 6));
+        assert!(!tally.has_reason(&init(2, 0), 7));
+        for id in 2..=8 {
+            tally.handled(&packet(frame::init([id; 8], 0, 0, &[])), &replied());
+        }
+        assert!(tally.has_reason(&init(9, 0), 7) && !tally.has_reason(&init(8, 0), 7));
+        assert!(tally.has_reason(&Call::Take, 23));
+        tally.handled(&packet(frame::done([8; 8], 0, 0, &[0; 32])), &replied());
+        assert!(!tally.has_reason(&Call::Take, 23));
+    }
+
+    #[test]
+    fn timers_go_by_hundred_and_three_hundred_thousand() {
+        let mut tally = tally();
+        tally.pushed(&push(1, 0), 50);
+        let mut due = |clock| {
+            let due = tally.due(&[1; 8], clock);
+            (due.tick, due.deadlines)
+        };
+        assert_eq!(due(149), (false, 0));
+        assert_eq!(due(150), (true, 0));
+        assert_eq!(due(249), (false, 0));
+        assert_eq!(due(487), (true, 0));
+        assert_eq!(due(549), (false, 0));
+        assert_eq!(due(300_050), (true, 1));
+        assert_eq!(due(600_049), (true, 0));
+        assert_eq!(due(600_050), (true, 1));
+        assert!(tally.leaving.is_empty());
+    }
+}

@@ -1,0 +1,202 @@
+//! The command line.
+
+use crate::faults::Odds;
+use clap::{Args, Parser, Subcommand};
+use socketlemon::{Address, Rules, RulesError, Subnet};
+use std::net::SocketAddrV6;
+use std::path::PathBuf;
+
+/// Sends surveys from a tablet to the office over UDP on IPv6.
+#[derive(Debug, Parser)]
+#[command(name = "socketlemon-link", version)]
+#[command(after_help = "Exit status: 0 arrived (read or received), 1 failed, 2 wrong usage.")]
+pub struct Cli {
+    /// Which side this is.
+    #[command(subcommand)]
+    pub side: Side,
+}
+
+/// The sides, and their keys.
+#[derive(Debug, Subcommand)]
+pub enum Side {
+    /// The side that sends surveys
+    #[command(subcommand)]
+    Tablet(TabletCommand),
+    /// The side that receives surveys
+    #[command(subcommand)]
+    Office(OfficeCommand),
+    /// Show the key of a file and its address; the file is made if it is not there
+    Key {
+        /// The key file
+        file: PathBuf,
+    },
+}
+
+/// What a tablet does.
+#[derive(Debug, Subcommand)]
+pub enum TabletCommand {
+    /// Send a survey and wait until the office has it
+    Send(SendArgs),
+}
+
+/// What the office does.
+#[derive(Debug, Subcommand)]
+pub enum OfficeCommand {
+    /// Receive surveys and write each to a file when it is whole
+    Listen(ListenArgs),
+}
+
+/// How to send.
+#[derive(Debug, Args)]
+pub struct SendArgs {
+    /// The survey, a file of at most 32,500 bytes
+    pub file: PathBuf,
+    /// The office's socket.
+    #[arg(long, value_name = "ADDR", help = "The office's socket, as [::1]:7700")]
+    pub to: SocketAddrV6,
+    /// The office's address, as the office shows it when it starts
+    #[arg(long, value_name = "ADDRESS")]
+    pub office: Address,
+    /// The survey's topic
+    #[arg(long, default_value = "survey", value_parser = topic)]
+    pub topic: String,
+    /// The tablet's key file; made at first use
+    #[arg(long, value_name = "FILE", default_value = "tablet.key")]
+    pub key: PathBuf,
+    /// After how many seconds the tablet gives up
+    #[arg(long, value_name = "SECONDS", default_value_t = 300, value_parser = clap::value_parser!(u64).range(1..=86_400))]
+    pub deadline: u64,
+    /// How bad the link is.
+    #[command(flatten)]
+    pub odds: OddsArgs,
+}
+
+/// How to listen.
+#[derive(Debug, Args)]
+pub struct ListenArgs {
+    /// The folder for the surveys; made if it is not there
+    #[arg(long, value_name = "DIR")]
+    pub out: PathBuf,
+    /// The keys of the tablets whose surveys are taken: a file with a key in hexadecimal on each line
+    #[arg(long, value_name = "FILE")]
+    pub known: PathBuf,
+    /// The socket to listen on
+    #[arg(long, value_name = "ADDR", default_value = "[::1]:7700")]
+    pub listen: SocketAddrV6,
+    /// The office's key file; made at first use
+    #[arg(long, value_name = "FILE", default_value = "office.key")]
+    pub key: PathBuf,
+    /// The file that keeps what has arrived so far [default: office.store in the folder for the surveys]
+    #[arg(long, value_name = "FILE")]
+    pub store: Option<PathBuf>,
+    /// A topic that is taken, and from which subnets; can be given again. All other topics are rejected
+    #[arg(long, value_name = "TOPIC[=SUBNET,..]", default_value = "survey=400::/7", value_parser = allowed)]
+    pub allow: Vec<Allowed>,
+    /// After how many seconds of silence a message that is not whole is dropped
+    #[arg(long, value_name = "SECONDS", default_value_t = 300, value_parser = clap::value_parser!(u64).range(1..=86_400))]
+    pub forget: u64,
+    /// End after this many surveys, when the link is quiet
+    #[arg(long, value_name = "N")]
+    pub count: Option<u64>,
+    /// How bad the link is.
+    #[command(flatten)]
+    pub odds: OddsArgs,
+}
+
+/// A bad link, for trials; what this side sends goes through it.
+#[derive(Clone, Copy, Debug, Args)]
+#[command(next_help_heading = "A bad link, for trials; what this side sends goes through it")]
+pub struct OddsArgs {
+    /// The probability that a datagram is lost
+    #[arg(long, value_name = "P", default_value_t = 0.0, value_parser = probability)]
+    pub lose: f64,
+    /// The probability that it goes out twice
+    #[arg(long, value_name = "P", default_value_t = 0.0, value_parser = probability)]
+    pub repeat: f64,
+    /// The probability that it goes out after the next one
+    #[arg(long, value_name = "P", default_value_t = 0.0, value_parser = probability)]
+    pub reorder: f64,
+    /// What the outcomes follow from
+    #[arg(long, value_name = "N", default_value_t = 1)]
+    pub seed: u64,
+}
+
+impl From<OddsArgs> for Odds {
+    fn from(args: OddsArgs) -> Odds {
+        Odds { lose: args.lose, repeat: args.repeat, reorder: args.reorder, seed: args.seed }
+    }
+}
+
+fn probability(text: &str) -> Result<f64, String> {
+    text.parse()
+        .ok()
+        .filter(|p| (0.0..=1.0).contains(p))
+        .ok_or_else(|| "a probability is a number from 0 to 1".to_owned())
+}
+
+fn topic(text: &str) -> Result<String, String> {
+    match text.len() {
+        0..=255 => Ok(text.to_owned()),
+        length => Err(format!("a topic has at most 255 bytes, not {length}")),
+    }
+}
+
+/// A topic with the subnets that it admits.
+#[derive(Clone, Debug, PartialEq, Eq)]
+pub struct Allowed {
+    topic: String,
+    subnets: Vec<Subnet>,
+}
+
+/// Reads `survey`, which admits everybody, or `survey=400::/7,500::/8`.
+fn allowed(text: &str) -> Result<Allowed, String> {
+    let (name, subnets) = match text.split_once('=') {
+        None => (text, vec![Subnet::ALL]),
+        Some((name, list)) => {
+            let subnets: Result<Vec<Subnet>, RulesError> = list.split(',').map(str::parse).collect();
+            (name, subnets.map_err(|error| error.to_string())?)
+        }
+    };
+    Ok(Allowed { topic: topic(name)?, subnets })
+}
+
+/// The rule book of the topics that are taken.
+pub fn rules(allowed: &[Allowed]) -> Result<Rules, RulesError> {
+    allowed
+        .iter()
+        .try_fold(Rules::reject_unlisted(), |rules, one| rules.topic(one.topic.as_bytes(), &one.subnets))
+}
+
+#[cfg(test)]
+mod tests {
+    use super::*;
+    use clap::CommandFactory;
+
+    #[test]
+    fn the_command_line_is_well_formed() {
+        Cli::command().debug_assert();
+    }
+
+    #[test]
+    fn probabilities_lie_between_0_and_1() {
+        assert_eq!((probability("0"), probability("0.25"), probability("1")), (Ok(0.0), Ok(0.25), Ok(1.0)));
+        for text in ["", "x", "-0.1", "1.1", "NaN", "inf"] {
+            assert!(probability(text).is_err(), "{text:?}");
+        }
+    }
+
+    #[test]
+    fn topics_make_a_rule_book() {
+        let one = allowed("survey=400::/7").expect("a topic");
+        let all = allowed("open").expect("a topic");
+        let mut bytes = b"\x01\x06survey\x01\x04".to_vec();
+        bytes.extend([0; 15]);
+        bytes.extend(b"\x07\x04open\x01");
+        bytes.extend([0; 17]);
+        assert_eq!(rules(&[one.clone(), all]).map(|rules| rules.as_bytes().to_vec()), Ok(bytes));
+        assert_eq!(rules(&[one.clone(), one]), Err(RulesError::ListedTwice(b"survey".to_vec())));
+        assert!(allowed("survey=").is_err());
+        assert!(allowed("survey=400::/7,nowhere").is_err());
+        assert!(allowed(&"t".repeat(256)).is_err());
+    }
+}

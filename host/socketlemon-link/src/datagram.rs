@@ -1,0 +1,152 @@
+//! Datagrams: a packet behind its from-address and its to-address, 16 bytes each.
+
+use socketlemon::{Address, Id, Packet, FRAME};
+use std::fmt;
+
+const ADDRESS: usize = 16;
+const HEAD: usize = 2 * ADDRESS;
+
+/// The most bytes of a datagram.
+pub const MOST: usize = HEAD + FRAME;
+
+const FLAGS: usize = 8;
+const INIT: u8 = 0x80;
+const DONE: u8 = 0x40;
+const ABORTED: u8 = 0x20;
+const CHUNK: u8 = 0x10;
+const ACK: u8 = 0x01;
+
+/// The bytes of a done, and of its acknowledgement.
+pub const DONE_BYTES: usize = 52;
+
+/// Why a datagram is dropped before the library sees it.
+#[derive(Clone, Copy, Debug, PartialEq, Eq, PartialOrd, Ord)]
+pub enum Dropped {
+    /// It has no room for the two addresses.
+    TooShort,
+    /// Its packet does not fit into a frame.
+    TooLong,
+    /// It goes to another address.
+    NotOurs,
+}
+
+impl fmt::Display for Dropped {
+    fn fmt(&self, f: &mut fmt::Formatter<'_>) -> fmt::Result {
+        f.write_str(match self {
+            Dropped::TooShort => "too short",
+            Dropped::TooLong => "too long",
+            Dropped::NotOurs => "to another address",
+        })
+    }
+}
+
+/// A packet that arrived, in its frame.
+#[derive(Clone, Debug)]
+pub struct Arrived {
+    /// The address that it says it comes from.
+    pub from: Address,
+    /// The address that it goes to.
+    pub to: Address,
+    /// The packet, filled up with zeros.
+    pub frame: [u8; FRAME],
+}
+
+impl Arrived {
+    /// Reads a datagram that came to an address.
+    pub fn read(datagram: &[u8], own: Address) -> Result<Arrived, Dropped> {
+        if datagram.len() < HEAD {
+            return Err(Dropped::TooShort);
+        }
+        let (head, packet) = datagram.split_at(HEAD);
+        if packet.len() > FRAME {
+            return Err(Dropped::TooLong);
+        }
+        let (mut from, mut to, mut frame) = ([0; ADDRESS], [0; ADDRESS], [0; FRAME]);
+        from.copy_from_slice(&head[..ADDRESS]);
+        to.copy_from_slice(&head[ADDRESS..]);
+        frame[..packet.len()].copy_from_slice(packet);
+        if Address(to) != own {
+            return Err(Dropped::NotOurs);
+        }
+        Ok(Arrived { from: Address(from), to: Address(to), frame })
+    }
+
+    /// An aborted packet for an id, from an address to itself.
+    pub fn aborted(id: Id, own: Address) -> Arrived {
+        let mut frame = [0; FRAME];
+        frame[..FLAGS].copy_from_slice(&id.0);
+        frame[FLAGS] = ABORTED;
+        Arrived { from: own, to: own, frame }
+    }
+
+    /// The id of the message that it is about.
+    pub fn id(&self) -> Id {
+        let mut id = [0; FLAGS];
+        id.copy_from_slice(&self.frame[..FLAGS]);
+        Id(id)
+    }
+
+    /// Whether it is a done, without ack.
+    pub fn is_done(&self) -> bool {
+        self.frame[FLAGS] & (INIT | CHUNK | DONE | ACK) == DONE
+    }
+
+    /// What acknowledges this packet if it is a done: its own first bytes with the ack flag.
+    pub fn done_acknowledgement(&self) -> [u8; DONE_BYTES] {
+        let mut reply = [0; DONE_BYTES];
+        reply.copy_from_slice(&self.frame[..DONE_BYTES]);
+        reply[FLAGS] |= ACK;
+        reply
+    }
+}
+
+/// The datagram of an outgoing packet.
+pub fn write(packet: &Packet<'_>) -> Vec<u8> {
+    [&packet.from.0[..], &packet.to.0, packet.bytes].concat()
+}
+
+#[cfg(test)]
+mod tests {
+    use super::*;
+
+    const OWN: Address = Address([4; 16]);
+
+    #[test]
+    fn a_packet_is_read_as_it_was_written() {
+        for length in [0, 1, 12, FRAME] {
+            let bytes = vec![7; length];
+            let datagram = write(&Packet { from: Address([5; 16]), to: OWN, bytes: &bytes });
+            let arrived = Arrived::read(&datagram, OWN).expect("a datagram");
+            assert_eq!((arrived.from, arrived.to), (Address([5; 16]), OWN));
+            assert_eq!(arrived.frame[..length], bytes);
+            assert!(arrived.frame[length..].iter().all(|byte| *byte == 0));
+        }
+    }
+
+    #[test]
+    fn other_lengths_and_addresses_are_dropped() {
+        for length in 0..HEAD {
+            assert_eq!(Arrived::read(&vec![4; length], OWN).err(), Some(Dropped::TooShort));
+        }
+        assert!(Arrived::read(&[4; HEAD], OWN).is_ok());
+        assert!(Arrived::read(&[4; MOST], OWN).is_ok());
+        for length in [MOST + 1, 65_535] {
+            assert_eq!(Arrived::read(&vec![4; length], OWN).err(), Some(Dropped::TooLong));
+        }
+        assert_eq!(Arrived::read(&[5; MOST], OWN).err(), Some(Dropped::NotOurs));
+    }
+
+    #[test]
+    fn a_done_is_told_from_the_rest() {
+        let mut arrived = Arrived::aborted(Id([1; 8]), OWN);
+        assert_eq!(arrived.id(), Id([1; 8]));
+        let dones: Vec<u8> = (0..=255u8)
+            .filter(|flags| {
+                arrived.frame[8] = *flags;
+                arrived.is_done()
+            })
+            .collect();
+        assert_eq!(dones.len(), 16, "the done flag, none of init, chunk and ack, any of the other four");
+        assert!(dones.iter().all(|flags| flags & 0xd1 == 0x40));
+    }
+}

@@ -1,0 +1,24 @@
+//! Surveys from a tablet to the office over UDP on IPv6: sockets, clocks and files around the `socketlemon` library.
+//!
+//! A datagram is a packet behind its from-address and its to-address. Both sides can be told to make the link bad, for trials.
+
+#![forbid(unsafe_code)]
+#![warn(missing_docs)]
+
+pub mod cli;
+pub mod counts;
+pub mod datagram;
+pub mod failure;
+pub mod faults;
+pub mod files;
+pub mod kept;
+pub mod keys;
+pub mod office;
+pub mod peers;
+pub mod port;
+pub mod progress;
+pub mod random;
+pub mod receipts;
+pub mod silence;
+pub mod surveys;
+pub mod tablet;

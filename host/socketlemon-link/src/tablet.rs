@@ -1,0 +1,298 @@
+//! The tablet: sends one survey and waits until the office has it.
+
+use crate::counts::Counts;
+use crate::datagram::{Arrived, MOST};
+use crate::failure::Failure;
+use crate::faults::Odds;
+use crate::keys::Key;
+use crate::port::Port;
+use crate::progress::Progress;
+use crate::random;
+use socketlemon::{
+    Address, Arrival, Id, Push, Report, Role, Rules, Run, State, Store, Wake, LONGEST_RUN, MOST_BYTES,
+    PACKET_RUN, PIECE,
+};
+use std::fs::File;
+use std::io::Read;
+use std::net::{Ipv6Addr, SocketAddrV6};
+use std::path::Path;
+use std::time::{Duration, Instant, SystemTime, UNIX_EPOCH};
+
+/// How often what is due is sent.
+const SEND_WAKE: Duration = Duration::from_millis(100);
+
+/// How long the tablet waits for the news that a received survey was read. The office sends it once, so it can be lost.
+const READ_WAIT: Duration = Duration::from_secs(2);
+
+/// After how long without an answer the user is told.
+const FIRST_WORD: Duration = Duration::from_secs(3);
+
+/// The office refuses a shorter piece unless it is the message's only one.
+const SHORTEST_PIECE: usize = 250;
+
+/// What the tablet is told.
+#[derive(Clone, Debug)]
+pub struct Send {
+    /// The survey.
+    pub survey: Vec<u8>,
+    /// The office's socket.
+    pub to: SocketAddrV6,
+    /// The office's address.
+    pub office: Address,
+    /// The survey's topic.
+    pub topic: String,
+    /// The tablet's key.
+    pub key: Key,
+    /// When the tablet gives up.
+    pub deadline: Duration,
+    /// How bad the link is, in the direction of the office.
+    pub odds: Odds,
+}
+
+/// How a survey has ended well.
+#[derive(Clone, Copy, Debug, PartialEq, Eq)]
+pub enum Ended {
+    /// The office has it whole.
+    Received,
+    /// The office has it in a file.
+    Read,
+}
+
+/// Reads a survey that can be sent: not too long, and of a length that can arrive.
+pub fn read_survey(path: &Path) -> Result<Vec<u8>, Failure> {
+    let failed = |error| Failure::file("read", path, &error);
+    let file = File::open(path).map_err(failed)?;
+    let mut survey = Vec::new();
+    file.take(MOST_BYTES as u64 + 1).read_to_end(&mut survey).map_err(failed)?;
+    check_length(survey.len())
+        .map_err(|why| Failure::new(format!("{} cannot be sent: {why}", path.display())))?;
+    Ok(survey)
+}
+
+fn check_length(length: usize) -> Result<(), String> {
+    if length > MOST_BYTES {
+        return Err(format!("it is longer than {MOST_BYTES} bytes, the most that a message can have"));
+    }
+    let last = length % PIECE;
+    if length > PIECE && last != 0 && last < SHORTEST_PIECE {
+        return Err(format!(
+            "its {length} bytes are cut into pieces of {PIECE}, which leaves {last} for the last piece, and the office refuses a last piece below \
+             {SHORTEST_PIECE} bytes: add {} bytes or take {last} away",
+            SHORTEST_PIECE - last
+        ));
+    }
+    Ok(())
+}
+
+/// A survey on its way.
+struct Tablet<'a> {
+    told: &'a Send,
+    own: Address,
+    id: Id,
+    send: Store,
+    /// The tablet takes no messages; a packet call asks for a receive store and a rule book all the same.
+    nothing_to_receive: Store,
+    no_topics: Rules,
+    port: Port,
+    start: Instant,
+    counts: Counts,
+    answers: u64,
+}
+
+/// Sends a survey and waits for its receipt.
+pub fn send(told: &Send) -> Result<Ended, Failure> {
+    let mut progress = Progress::new(told.survey.len());
+    let ended = Tablet::new(told)?.work(&mut progress);
+    progress.end();
+    ended
+}
+
+impl Tablet<'_> {
+    fn new(told: &Send) -> Result<Tablet<'_>, Failure> {
+        let store = |role, cells| {
+            Store::new(role, cells).map_err(|refusal| Failure::new(format!("cannot make a store: {refusal}")))
+        };
+        let any_port = SocketAddrV6::new(Ipv6Addr::UNSPECIFIED, 0, 0, 0);
+        Ok(Tablet {
+            told,
+            own: told.key.address(),
+            id: Id(random::bytes()?),
+            send: store(Role::Send, MOST_BYTES / PIECE)?,
+            nothing_to_receive: store(Role::Receive, 1)?,
+            no_topics: Rules::reject_unlisted(),
+            port: Port::open(any_port, told.odds)?,
+            start: Instant::now(),
+            counts: Counts::default(),
+            answers: 0,
+        })
+    }
+
+    fn work(&mut self, progress: &mut Progress) -> Result<Ended, Failure> {
+        let mut buffer = [0; MOST + 1];
+        let deadline = self.start + self.told.deadline;
+        let mut next_send = self.start + SEND_WAKE;
+        let mut first_word = Some(self.start + FIRST_WORD);
+        let mut received: Option<Instant> = None;
+        self.push()?;
+        loop {
+            let report = self.report()?;
+            progress.show(&report);
+            let now = Instant::now();
+            match report.state {
+                State::Read => return Ok(Ended::Read),
+                State::Received => {
+                    let since = *received.get_or_insert(now);
+                    if now >= since + READ_WAIT {
+                        return Ok(Ended::Received);
+                    }
+                }
+                _ if now >= deadline => {
+                    self.wake(Wake::Deadline)?;
+                    self.port.release();
+                    progress.show(&self.report()?);
+                    return Err(self.why_not(&report));
+                }
+                _ => {}
+            }
+            if first_word.map_or(false, |at| now >= at) && self.answers == 0 {
+                first_word = None;
+                progress.say(&format!(
+                    "no answer from {} yet, trying for {} s",
+                    self.told.to,
+                    self.told.deadline.as_secs()
+                ));
+            }
+            if now >= next_send {
+                next_send = now + SEND_WAKE;
+                self.port.release();
+                self.wake_send()?;
+            }
+            if let Some((datagram, _)) = self.port.receive(next_send, &mut buffer)? {
+                self.datagram(datagram)?;
+            }
+        }
+    }
+
+    fn push(&mut self) -> Result<(), Failure> {
+        let told = self.told;
+        let created = SystemTime::now().duration_since(UNIX_EPOCH).unwrap_or_default();
+        let push = Push {
+            id: self.id,
+            reply: false,
+            from: self.own,
+            to: told.office,
+            topic: told.topic.as_bytes(),
+            data: &told.survey,
+            created_ms: millis(created),
+            try_ms: millis(told.deadline),
+        };
+        let mut run = [0; LONGEST_RUN];
+        let out = self
+            .send
+            .push(&push, &mut run)
+            .map_err(|refusal| Failure::new(format!("the survey cannot be sent: {refusal}")))?;
+        put(&mut self.port, out, told.to);
+        Ok(())
+    }
+
+    /// Sends what is due, by a clock that starts with the survey and never goes back.
+    fn wake_send(&mut self) -> Result<(), Failure> {
+        self.wake(Wake::Send { clock_ms: millis(self.start.elapsed()) })
+    }
+
+    fn wake(&mut self, wake: Wake) -> Result<(), Failure> {
+        let mut run = [0; LONGEST_RUN];
+        let out = self
+            .send
+            .wake(wake, self.id, &mut run)
+            .map_err(|refusal| Failure::new(format!("the survey cannot be woken: {refusal}")))?;
+        put(&mut self.port, out, self.told.to);
+        Ok(())
+    }
+
+    fn report(&self) -> Result<Report, Failure> {
+        self.send.report(self.id).map_err(|refusal| Failure::new(format!("the survey is lost: {refusal}")))
+    }
+
+    fn datagram(&mut self, datagram: &[u8]) -> Result<(), Failure> {
+        let arrived = match Arrived::read(datagram, self.own) {
+            Ok(arrived) => arrived,
+            Err(reason) => {
+                self.counts.drop(reason);
+                return Ok(());
+            }
+        };
+        let arrival = Arrival {
+            frame: &arrived.frame,
+            from: arrived.from,
+            to: arrived.to,
+            rules: &self.no_topics,
+            known: false,
+        };
+        let mut run = [0; PACKET_RUN];
+        match self.nothing_to_receive.packet(&mut self.send, &arrival, &mut run) {
+            Ok(answer) => {
+                self.answers += 1;
+                if answer.wake {
+                    self.wake_send()?;
+                }
+            }
+            Err(refusal) => self.counts.refuse(refusal),
+        }
+        Ok(())
+    }
+
+    /// Why the survey did not arrive, as far as the tablet can tell.
+    fn why_not(&self, report: &Report) -> Failure {
+        let Send { to, topic, deadline, .. } = self.told;
+        let seconds = deadline.as_secs_f64();
+        let all = (self.told.survey.len() + PIECE - 1) / PIECE;
+        let mut words = match report.state {
+            State::Init => format!(
+                "nobody answered at {to} within {seconds} s: is the office there, is {} its address, and does it take the topic {topic:?} from {}?",
+                self.told.office, self.own
+            ),
+            _ if usize::from(report.acked) == all => format!(
+                "the office has all {all} pieces, but sent no receipt within {seconds} s: does it know the key of {}? The survey may have arrived all the same",
+                self.own
+            ),
+            _ => format!("the office stopped answering: {} of {all} pieces were acknowledged within {seconds} s", report.acked),
+        };
+        if let Some(trouble) = self.port.trouble() {
+            words.push_str(&format!(" (the last datagram could not be sent: {trouble})"));
+        }
+        if self.counts != Counts::default() {
+            words.push_str(&format!(" ({})", self.counts));
+        }
+        Failure::new(words)
+    }
+}
+
+fn put(port: &mut Port, run: Run<'_>, to: SocketAddrV6) {
+    for packet in run {
+        port.send(&packet, to.into());
+    }
+}
+
+fn millis(time: Duration) -> u64 {
+    u64::try_from(time.as_millis()).unwrap_or(u64::MAX)
+}
+
+#[cfg(test)]
+mod tests {
+    use super::*;
+
+    #[test]
+    fn lengths_that_cannot_arrive_are_told() {
+        for length in [0, 1, 249, 250, 1_299, 1_300, 1_550, 2_600, 2_850, 32_499, 32_500] {
+            assert_eq!(check_length(length), Ok(()), "{length} bytes");
+        }
+        for length in [1_301, 1_549, 2_601, 2_849, 31_201, 31_449] {
+            let why = check_length(length).expect_err("a short last piece");
+            assert!(why.contains("below 250 bytes"), "{why}");
+            assert!(why.contains(&format!("leaves {} for the last piece", length % 1_300)), "{why}");
+        }
+        let why = check_length(32_501).expect_err("too long");
+        assert!(why.contains("longer than 32500 bytes"), "{why}");
+    }
+}

@@ -1,0 +1,199 @@
+//! What an office must withstand: noise, strangers that fill its store, and dones that come again.
+
+mod common;
+
+use common::{introduce, run, survey, tablet, Folder, Office};
+use socketlemon::{Address, Arrival, Id, Push, Role, Rules, Run, State, Store, Wake, FRAME, LONGEST_RUN};
+use socketlemon_link::datagram::{self, Arrived};
+use socketlemon_link::keys::Key;
+use socketlemon_link::random::Seeded;
+use std::net::UdpSocket;
+use std::time::Duration;
+
+/// A socket that speaks to an office.
+struct Voice {
+    socket: UdpSocket,
+    office: Address,
+}
+
+impl Voice {
+    fn to(office: &Office) -> Voice {
+        let socket = UdpSocket::bind("[::1]:0").expect("a socket");
+        socket.connect(&office.socket).expect("the office's socket");
+        socket.set_read_timeout(Some(Duration::from_secs(5))).expect("a time to wait");
+        Voice { socket, office: office.address.parse().expect("its address") }
+    }
+
+    fn send(&self, from: Address, packet: &[u8]) {
+        let bytes = datagram::write(&socketlemon::Packet { from, to: self.office, bytes: packet });
+        self.raw(&bytes);
+    }
+
+    /// Sends bytes; what the system does not take now is lost.
+    fn raw(&self, bytes: &[u8]) {
+        let _ = self.socket.send(bytes);
+    }
+
+    /// The next packet that comes to an address.
+    fn receive(&self, own: Address) -> Option<Arrived> {
+        let mut buffer = [0; datagram::MOST + 1];
+        let length = self.socket.recv(&mut buffer).ok()?;
+        Some(Arrived::read(&buffer[..length], own).expect("a datagram of the office"))
+    }
+}
+
+/// A packet with random bytes, or one of a right form with wrong contents.
+fn noise(random: &mut Seeded, own: Address) -> Vec<u8> {
+    let length = (random.number() % 2_000) as usize;
+    let mut bytes: Vec<u8> = std::iter::repeat_with(|| random.number() as u8).take(length).collect();
+    // three of four go to the office's address, and half of those have numbers small enough to matter
+    if length >= 32 && !random.chance(0.25) {
+        bytes[16..32].copy_from_slice(&own.0);
+        if random.chance(0.5) {
+            bytes[0] = 4;
+            for field in [44, 52, 60] {
+                let small = random.number() % 40_000;
+                if let Some(place) = bytes.get_mut(field..field + 8) {
+                    place.copy_from_slice(&small.to_be_bytes());
+                }
+            }
+        }
+    }
+    bytes
+}
+
+#[test]
+fn noise_does_not_stop_the_office() {
+    let folder = Folder::new();
+    introduce(&folder);
+    let mut office = Office::start(&folder, "[::1]:0", &["--count", "1"]);
+    let voice = Voice::to(&office);
+    let hostile = std::thread::spawn(move || {
+        let mut random = Seeded::new(5);
+        for number in 0..6_000 {
+            voice.raw(&noise(&mut random, voice.office));
+            if number % 20 == 0 {
+                std::thread::sleep(Duration::from_millis(5));
+            }
+        }
+    });
+    let data = survey(32_500, 1);
+    let output = run(tablet(&folder, &office, &folder.file("survey", &data), &["--deadline", "40"]));
+    assert_eq!(output.status.code(), Some(0), "{output:?}");
+    hostile.join().expect("the hostile sender");
+    let counts = office.line(|line| line.starts_with("dropped: ") && !line.contains("dropped: none"));
+    for reason in ["too short", "too long", "to another address", "unknown id"] {
+        assert!(counts.contains(reason), "{reason:?} is not in {counts:?}");
+    }
+    assert_eq!(office.end(), Some(0));
+    assert!(folder.surveys() == [data]);
+}
+
+#[test]
+fn strangers_do_not_keep_a_known_tablet_out() {
+    let folder = Folder::new();
+    introduce(&folder);
+    let mut office = Office::start(&folder, "[::1]:0", &[]);
+    let voice = Voice::to(&office);
+    let stranger = Key([9; 32]).address();
+    let packet = |id: u8, flags: u8, numbers: &[u64], tail: &[u8]| {
+        let numbers: Vec<u8> = numbers.iter().flat_map(|n| n.to_be_bytes()).collect();
+        [&[id; 8][..], &[flags, 0, 0, 0], &numbers, tail].concat()
+    };
+    // eight messages of a stranger take all records, and their pieces all cells; the office acknowledges each packet
+    for id in 0..8 {
+        voice.send(stranger, &packet(id, 0x80, &[7_800], b"\x06survey"));
+        assert!(voice.receive(stranger).is_some(), "init {id}");
+    }
+    for piece in 0..45u8 {
+        let (id, index) = (piece / 6, u64::from(piece % 6));
+        voice.send(stranger, &packet(id, 0x10, &[index, index * 1_300, 1_300], &[piece; 1_300]));
+        assert!(voice.receive(stranger).is_some(), "piece {piece}");
+    }
+
+    let data = survey(32_500, 1);
+    let output = run(tablet(&folder, &office, &folder.file("survey", &data), &["--deadline", "40"]));
+    assert_eq!(output.status.code(), Some(0), "{output:?}");
+    assert!(office.runs());
+    assert!(folder.surveys() == [data]);
+}
+
+#[test]
+fn silent_messages_are_dropped() {
+    let folder = Folder::new();
+    introduce(&folder);
+    let mut office = Office::start(&folder, "[::1]:0", &["--forget", "1"]);
+    let voice = Voice::to(&office);
+    let own = Key::of_file(&folder.path("tablet.key")).expect("the tablet's key").address();
+    let init = [&[7; 8][..], &[0x80, 0, 0, 0], &1_300u64.to_be_bytes(), b"\x06survey"].concat();
+    voice.send(own, &init);
+    assert!(voice.receive(own).is_some(), "the init is acknowledged");
+    let line = office.line(|line| line.contains("went silent and was dropped"));
+    assert!(line.contains("0707070707070707"), "{line}");
+    let kept = std::fs::read(folder.path("out/office.store")).expect("the office's file");
+    let store = Store::from_bytes(Role::Receive, kept).expect("a sound store");
+    assert_eq!(store.records().count(), 0);
+}
+
+#[test]
+fn a_done_that_comes_again_gets_its_receipt_again() {
+    let folder = Folder::new();
+    introduce(&folder);
+    let own = Key::of_file(&folder.path("tablet.key")).expect("the tablet's key").address();
+    let mut office = Office::start(&folder, "[::1]:0", &[]);
+    let mut voice = Voice::to(&office);
+    let rules = Rules::reject_unlisted();
+    let (mut send, mut receive) =
+        (Store::new(Role::Send, 1).expect("a store"), Store::new(Role::Receive, 1).expect("a store"));
+    let id = Id([1; 8]);
+    let data = survey(1_300, 0);
+    let push = Push {
+        id,
+        reply: false,
+        from: own,
+        to: voice.office,
+        topic: b"survey",
+        data: &data,
+        created_ms: 0,
+        try_ms: 0,
+    };
+    let mut buffer = [0; LONGEST_RUN];
+    let mut out = send.push(&push, &mut buffer).expect("push").as_bytes().to_vec();
+    // init and chunk are acknowledged; then the done is next
+    for clock_ms in [0, 100] {
+        Run::from_bytes(&out).packets().for_each(|packet| voice.send(own, packet.bytes));
+        let arrived = voice.receive(own).expect("an acknowledgement");
+        let arrival =
+            Arrival { frame: &arrived.frame, from: arrived.from, to: own, rules: &rules, known: false };
+        receive.packet(&mut send, &arrival, &mut [0; FRAME]).expect("an acknowledgement");
+        out = send.wake(Wake::Send { clock_ms }, id, &mut buffer).expect("wake").as_bytes().to_vec();
+    }
+    let done = Run::from_bytes(&out).packets().next().expect("a done").bytes.to_vec();
+    voice.send(own, &done);
+    let first = voice.receive(own).expect("the receipt");
+    assert_eq!(first.frame[8], 0x41);
+    let read = voice.receive(own).expect("the read packet");
+    assert_eq!(read.frame[8], 0x08);
+
+    // both were lost on the way: the tablet sends its done again, also to an office that was started again
+    voice.send(own, &done);
+    assert_eq!(voice.receive(own).expect("the receipt again").frame, first.frame);
+    office.kill();
+    let socket = office.socket.clone();
+    office = Office::start(&folder, &socket, &[]);
+    voice = Voice::to(&office);
+    voice.send(own, &done);
+    let again = voice.receive(own).expect("the receipt again");
+    assert_eq!(again.frame, first.frame);
+    let arrival = Arrival { frame: &again.frame, from: again.from, to: own, rules: &rules, known: false };
+    receive.packet(&mut send, &arrival, &mut [0; FRAME]).expect("the receipt");
+    assert_eq!(send.report(id).expect("report").state, State::Received);
+
+    // a done with another sum is another done
+    let mut other = done;
+    other[51] ^= 1;
+    voice.socket.set_read_timeout(Some(Duration::from_millis(300))).expect("a time to wait");
+    voice.send(own, &other);
+    assert!(voice.receive(own).is_none());
+    assert!(folder.surveys() == [data], "and it was written once");
+}

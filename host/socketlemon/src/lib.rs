@@ -1,0 +1,110 @@
+//! Message transfer for house surveys over links that lose, repeat and reorder packets.
+//!
+//! This is the safe Rust API over the proved library. The library owns bytes: two [`Store`]s, one for what arrives and one for what leaves, and the
+//! packets that a call hands back as a [`Run`]. The host owns sockets and clocks. A call gives a result or a [`Refusal`]; a refusal changes nothing.
+//! docs/PROTOCOL.md says what each call does.
+//!
+//! # A message from a tablet to the office
+//!
+//! ```
+//! use socketlemon::{Address, Arrival, Id, Packet, Push, Refusal, Role, Rules, State, Store, Wake, FRAME, LONGEST_RUN};
+//!
+//! // each side has two stores and an address, which comes from its key
+//! struct Side { receive: Store, send: Store, rules: Rules }
+//!
+//! impl Side {
+//!     fn new(rules: Rules) -> Result<Side, Refusal> {
+//!         Ok(Side { receive: Store::new(Role::Receive, 25)?, send: Store::new(Role::Send, 25)?, rules })
+//!     }
+//!
+//!     // hands over a packet and gives back the bytes of the run that answers it
+//!     fn packet(&mut self, packet: Packet<'_>) -> Result<Vec<u8>, Refusal> {
+//!         let mut frame = [0; FRAME];
+//!         frame[..packet.bytes.len()].copy_from_slice(packet.bytes);
+//!         let arrival = Arrival { frame: &frame, from: packet.from, to: packet.to, rules: &self.rules, known: true };
+//!         let mut run = [0; LONGEST_RUN];
+//!         let answer = self.receive.packet(&mut self.send, &arrival, &mut run)?;
+//!         Ok(answer.run.as_bytes().to_vec())
+//!     }
+//! }
+//!
+//! let mut tablet = Side::new(Rules::reject_unlisted())?;
+//! let mut office = Side::new(Rules::reject_unlisted().topic(b"survey", &["400::/7".parse()?])?)?;
+//! let push = Push {
+//!     id: Id(*b"house 12"),
+//!     reply: false,
+//!     from: Address::of_key(&[1; 32])?,
+//!     to: Address::of_key(&[2; 32])?,
+//!     topic: b"survey",
+//!     data: b"kitchen: 150 m3/h",
+//!     created_ms: 0,
+//!     try_ms: 300_000,
+//! };
+//!
+//! // the init, then a wake for the piece and one for the done; each is answered at once here
+//! let mut run = [0; LONGEST_RUN];
+//! let mut out = tablet.send.push(&push, &mut run)?.as_bytes().to_vec();
+//! for clock_ms in [100, 200, 300] {
+//!     for packet in socketlemon::Run::from_bytes(&out) {
+//!         for reply in socketlemon::Run::from_bytes(&office.packet(packet)?) {
+//!             tablet.packet(reply)?;
+//!         }
+//!     }
+//!     out = tablet.send.wake(Wake::Send { clock_ms }, push.id, &mut run)?.as_bytes().to_vec();
+//! }
+//! assert_eq!(tablet.send.report(push.id)?.state, State::Received);
+//!
+//! // the office takes the message, and its read packet goes back
+//! let (taken, read) = office.receive.take(&mut run)?;
+//! assert_eq!(taken.data, push.data);
+//! for packet in read {
+//!     tablet.packet(packet)?;
+//! }
+//! assert_eq!(tablet.send.report(push.id)?.state, State::Read);
+//! # Ok::<(), Box<dyn std::error::Error>>(())
+//! ```
+
+#![warn(missing_docs)]
+#![deny(unsafe_code)]
+
+mod address;
+#[allow(unsafe_code)]
+mod ffi;
+mod record;
+mod refusal;
+mod report;
+mod rules;
+mod run;
+mod store;
+
+pub use address::{Address, Id};
+pub use record::{Kind, Record, Taken};
+pub use refusal::Refusal;
+pub use report::{Report, State};
+pub use rules::{Rules, RulesError, Subnet};
+pub use run::{Packet, Packets, Run};
+pub use store::{Answer, Arrival, Push, Role, Store, Wake};
+
+/// The bytes of a frame: the whole receive buffer for a packet.
+pub const FRAME: usize = 1_400;
+
+/// The most bytes of a message.
+pub const MOST_BYTES: usize = 32_500;
+
+/// The bytes by which a pushed message is cut.
+pub const PIECE: usize = 1_300;
+
+/// The run buffer that is enough for [`Store::packet`].
+pub const PACKET_RUN: usize = 86;
+
+/// The run buffer that is enough for [`Store::push`].
+pub const PUSH_RUN: usize = 310;
+
+/// The run buffer that is enough for [`Store::wake`].
+pub const WAKE_RUN: usize = 34_250;
+
+/// The run buffer that is enough for [`Store::take`].
+pub const TAKE_RUN: usize = 46;
+
+/// The run buffer that is enough for every call.
+pub const LONGEST_RUN: usize = WAKE_RUN;

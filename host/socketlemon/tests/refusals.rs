@@ -1,0 +1,173 @@
+//! Each of the 25 refusals, brought about by a call; none of them changes a store or a buffer.
+
+mod common;
+
+use common::{message, push, Side, ID};
+use socketlemon::{
+    Address, Arrival, Id, Packet, Push, Refusal, Rules, Wake, FRAME, LONGEST_RUN, PACKET_RUN, PUSH_RUN,
+    TAKE_RUN, WAKE_RUN,
+};
+
+const INIT: u8 = 0x80;
+const DONE: u8 = 0x40;
+const CHUNK: u8 = 0x10;
+const READ: u8 = 0x08;
+const ACK: u8 = 0x01;
+
+/// The sum of a message without bytes, as the BLAKE3 paper's vectors have it.
+const EMPTY_SUM: [u8; 32] = [
+    0xaf, 0x13, 0x49, 0xb9, 0xf5, 0xf9, 0xa1, 0xa6, 0xa0, 0x40, 0x4d, 0xea, 0x36, 0xdc, 0xc9, 0x49, 0x9b,
+    0xcb, 0x25, 0xc9, 0xad, 0xc1, 0x12, 0xb7, 0xcc, 0x9a, 0x93, 0xca, 0xe4, 0x1f, 0x32, 0x62,
+];
+
+fn packet(id: Id, flags: u8, numbers: &[u64], tail: &[u8]) -> Vec<u8> {
+    let mut bytes = [&id.0[..], &[flags, 0, 0, 0]].concat();
+    bytes.extend(numbers.iter().flat_map(|n| n.to_be_bytes()));
+    bytes.extend_from_slice(tail);
+    bytes
+}
+
+/// The answer of a side to a packet made by hand.
+fn hand(side: &mut Side, bytes: &[u8]) -> Result<usize, Refusal> {
+    let before = (side.receive.clone(), side.send.clone());
+    let (from, to) = (Address([5; 16]), side.address);
+    let mut run = [0xee; LONGEST_RUN];
+    let answer = side.packet(Packet { from, to, bytes }, &mut run).map(|a| a.run.as_bytes().len());
+    if answer.is_err() {
+        assert!(before == (side.receive.clone(), side.send.clone()), "a refusal changed a store");
+        assert!(run == [0xee; LONGEST_RUN], "a refusal wrote into the run");
+    }
+    answer
+}
+
+/// An office that holds an arriving message of a length, with no pieces.
+fn office(length: u64) -> Side {
+    let mut office = Side::new(2, 2);
+    assert_eq!(hand(&mut office, &packet(ID, INIT, &[length], &[0])), Ok(34 + 21));
+    office
+}
+
+/// A tablet that has pushed a message of two pieces.
+fn tablet() -> Side {
+    let (mut tablet, office) = (Side::new(1, 2), Side::new(2, 2));
+    let data = message(2_600);
+    tablet.send.push(&push(&tablet, &office, &data), &mut [0; PUSH_RUN]).expect("push");
+    tablet
+}
+
+#[test]
+fn frames_and_outputs() {
+    let mut side = office(0);
+    let rules = Rules::accept_unlisted();
+    for length in [0, FRAME - 1, FRAME + 1] {
+        let frame = vec![0; length];
+        let (from, to) = (side.address, side.address);
+        let arrival = Arrival { frame: &frame, from, to, rules: &rules, known: true };
+        let answer = side.receive.packet(&mut side.send, &arrival, &mut [0; PACKET_RUN]).err();
+        assert_eq!(answer, Some(Refusal::BadFrame));
+    }
+    let bytes = packet(ID, INIT, &[0], &[0]);
+    let (from, to) = (side.address, side.address);
+    let answer = side.packet(Packet { from, to, bytes: &bytes }, &mut [0; PACKET_RUN - 1]).err();
+    assert_eq!(answer, Some(Refusal::ShortOutput));
+    assert_eq!(hand(&mut side, &packet(ID, DONE, &[0], &EMPTY_SUM)), Ok(34 + 52));
+    assert_eq!(side.receive.take(&mut [0; TAKE_RUN - 1]), Err(Refusal::ShortOutput));
+    let mut tablet = tablet();
+    let wake = Wake::Send { clock_ms: 0 };
+    assert_eq!(tablet.send.wake(wake, ID, &mut [0; WAKE_RUN - 1]), Err(Refusal::ShortOutput));
+    assert_eq!(hand(&mut tablet, &packet(ID, 0, &[], &[])), Err(Refusal::NoWork));
+    assert_eq!(hand(&mut tablet, &packet(ID, READ | ACK, &[], &[])), Err(Refusal::NoWork));
+}
+
+#[test]
+fn inits() {
+    let mut side = Side::new(2, 2);
+    let init = packet(ID, INIT, &[0], b"\x06survey");
+    side.rules = Rules::from_bytes(&[]);
+    assert_eq!(hand(&mut side, &init), Err(Refusal::BadRules));
+    side.rules = Rules::reject_unlisted();
+    assert_eq!(hand(&mut side, &init), Err(Refusal::ClosedTopic));
+    let near = |subnet: &str| {
+        Rules::reject_unlisted().topic(b"survey", &[subnet.parse().expect("a subnet")]).expect("a book")
+    };
+    side.rules = near("405::/16");
+    assert_eq!(hand(&mut side, &init), Err(Refusal::ClosedTopic));
+    side.rules = near("500::/8");
+    assert_eq!(hand(&mut side, &init), Ok(34 + 21));
+    assert_eq!(hand(&mut side, &packet(ID, DONE, &[0], &EMPTY_SUM)), Ok(34 + 52));
+    assert_eq!(hand(&mut side, &init), Err(Refusal::AlreadyWhole));
+    assert_eq!(hand(&mut side, &packet(Id([1; 8]), INIT, &[32_501], b"\x06survey")), Err(Refusal::TooLong));
+    for id in 1..8 {
+        assert_eq!(hand(&mut side, &packet(Id([id; 8]), INIT, &[9], b"\x06survey")), Ok(34 + 21));
+    }
+    assert_eq!(hand(&mut side, &packet(Id([8; 8]), INIT, &[9], b"\x06survey")), Err(Refusal::NoRecord));
+}
+
+#[test]
+fn chunks() {
+    let mut side = office(1_301);
+    let chunk = |index, offset, size| packet(ID, CHUNK, &[index, offset, size], &[]);
+    let stranger = packet(Id([1; 8]), CHUNK, &[0, 0, 250], &[]);
+    assert_eq!(hand(&mut side, &stranger), Err(Refusal::UnknownId));
+    assert_eq!(hand(&mut side, &chunk(0, 2, 1_300)), Err(Refusal::PastEnd));
+    assert_eq!(hand(&mut side, &chunk(6, 0, 1_300)), Err(Refusal::HighIndex));
+    assert_eq!(hand(&mut side, &chunk(1, 1_300, 1)), Err(Refusal::ShortPiece));
+    assert_eq!(hand(&mut side, &chunk(0, 0, 1_300)), Ok(34 + 36));
+    assert_eq!(hand(&mut side, &chunk(1, 0, 300)), Ok(34 + 36));
+    assert_eq!(hand(&mut side, &chunk(2, 0, 300)), Err(Refusal::NoCell));
+}
+
+#[test]
+fn dones() {
+    let done = |count, sum: &[u8]| packet(ID, DONE, &[count], sum);
+    assert_eq!(hand(&mut office(1_300), &done(2, &EMPTY_SUM)), Err(Refusal::Count));
+    assert_eq!(hand(&mut office(1_300), &done(1, &EMPTY_SUM)), Err(Refusal::Gap));
+    let mut side = office(1_300);
+    assert_eq!(hand(&mut side, &packet(ID, CHUNK, &[0, 0, 1_299], &[])), Ok(34 + 36));
+    assert_eq!(hand(&mut side, &done(1, &EMPTY_SUM)), Err(Refusal::Total));
+    assert_eq!(hand(&mut side, &packet(ID, CHUNK, &[0, 0, 1_300], &[])), Ok(34 + 36));
+    assert_eq!(hand(&mut side, &done(1, &EMPTY_SUM)), Err(Refusal::Sum));
+    let mut side = office(0);
+    side.known = false;
+    assert_eq!(hand(&mut side, &done(0, &EMPTY_SUM)), Err(Refusal::NoKey));
+    side.known = true;
+    assert_eq!(hand(&mut side, &done(0, &EMPTY_SUM)), Ok(34 + 52));
+    assert_eq!(hand(&mut side, &done(0, &EMPTY_SUM)), Err(Refusal::UnknownId));
+}
+
+#[test]
+fn acknowledgements() {
+    let mut side = tablet();
+    assert_eq!(hand(&mut side, &packet(ID, DONE | ACK, &[0], &[])), Err(Refusal::WrongState));
+    assert_eq!(hand(&mut side, &packet(ID, READ, &[], &[])), Err(Refusal::WrongState));
+    assert_eq!(hand(&mut side, &packet(ID, INIT | ACK, &[0], &[])), Ok(0));
+    assert_eq!(hand(&mut side, &packet(ID, CHUNK | ACK, &[2], &[])), Err(Refusal::NoSuchPiece));
+    assert_eq!(hand(&mut side, &packet(ID, CHUNK | ACK, &[1], &[])), Ok(0));
+}
+
+#[test]
+fn pushes_and_takes() {
+    let (mut tablet, mut office) = (Side::new(1, 1), Side::new(2, 1));
+    let data = message(32_501);
+    let good = push(&tablet, &office, &data[..1_300]);
+    let mut run = [0; LONGEST_RUN];
+    let mut refused = |push: &Push<'_>| tablet.send.push(push, &mut run).err();
+    assert_eq!(refused(&Push { topic: &[1; 256], ..good }), Some(Refusal::TopicTooLarge));
+    assert_eq!(refused(&Push { data: &data, ..good }), Some(Refusal::TooLong));
+    assert_eq!(refused(&Push { created_ms: u64::MAX, try_ms: 1, ..good }), Some(Refusal::Clock));
+    assert_eq!(refused(&Push { data: &data[..1_301], ..good }), Some(Refusal::NoCell));
+    assert_eq!(refused(&Push { topic: &[1; 255], ..good }), None);
+    assert_eq!(refused(&good), Some(Refusal::IdInUse));
+    for id in 1..8 {
+        assert_eq!(refused(&Push { id: Id([id; 8]), data: &[], ..good }), None);
+    }
+    assert_eq!(refused(&Push { id: Id([8; 8]), data: &[], ..good }), Some(Refusal::NoRecord));
+    assert_eq!(tablet.send.push(&good, &mut [0; PUSH_RUN - 1]), Err(Refusal::ShortOutput));
+
+    assert_eq!(office.receive.take(&mut run), Err(Refusal::NoneWhole));
+    assert_eq!(office.send.take(&mut run), Err(Refusal::UnsoundStore));
+    assert_eq!(office.receive.report(ID), Err(Refusal::UnsoundStore));
+    assert_eq!(office.receive.push(&good, &mut run), Err(Refusal::UnsoundStore));
+    assert_eq!(office.receive.wake(Wake::Deadline, ID, &mut run), Err(Refusal::UnsoundStore));
+    assert_eq!(office.send.wake(Wake::Deadline, ID, &mut run), Err(Refusal::UnknownId));
+}

@@ -1,0 +1,203 @@
+/* Feeds random and mutated bytes, lengths, stores and numbers to every export, and checks of each answer: the number is one of document 01's, the run fits its
+ * buffer, bytes past what was written stay, and a refusal changed nothing. Use: fuzz [SEED [ROUNDS]]; under valgrind it also shows that nothing outside the
+ * buffers is touched, for each lies in an allocation of its own. Exits with 0 and a last line 'N passed, 0 failed' if every answer was right. */
+#include <stdio.h>
+#include <stdlib.h>
+#include <string.h>
+
+#include "socketlemon.h"
+
+typedef struct {
+    uint8_t *at, *was;
+    size_t len;
+} buffer;
+
+static uint64_t state;
+static unsigned long passed, failed;
+
+static uint64_t next(void) {
+    state ^= state << 13;
+    state ^= state >> 7;
+    state ^= state << 17;
+    return state;
+}
+
+static size_t below(size_t n) { return (size_t)(next() % n); }
+
+/* A buffer of exactly that length, so that a tool sees every step outside. */
+static buffer make(size_t len) {
+    buffer b = {malloc(len ? len : 1), malloc(len ? len : 1), len};
+    if (!b.at || !b.was) abort();
+    for (size_t i = 0; i < len; i++) b.at[i] = (uint8_t)next();
+    return b;
+}
+
+static void drop(buffer b) {
+    free(b.at);
+    free(b.was);
+}
+
+static void keep(buffer b) { memcpy(b.was, b.at, b.len); }
+static int same_from(buffer b, size_t from) { return from >= b.len || memcmp(b.at + from, b.was + from, b.len - from) == 0; }
+
+static void expect(const char *what, int right) {
+    if (right) {
+        passed++;
+    } else {
+        failed++;
+        printf("failed: %s (state %llx)\n", what, (unsigned long long)state);
+    }
+}
+
+/* One length of a few: fitting, one off, or anything. */
+static size_t around(size_t fits, size_t most) {
+    switch (below(6)) {
+    case 0: return below(most + 1);
+    case 1: return fits ? fits - 1 : 0;
+    default: return fits;
+    }
+}
+
+static void answer(const char *what, socketlemon_answer a, buffer run, size_t changed_stores, buffer *stores) {
+    int right = a.number <= 25 && a.wake <= 1 && a.run <= run.len && same_from(run, (size_t)a.run);
+    if (a.number != 0) {
+        right = right && a.run == 0 && a.wake == 0 && same_from(run, 0);
+        for (size_t i = 0; i < changed_stores; i++) right = right && same_from(stores[i], 0);
+    }
+    expect(what, right);
+}
+
+static uint8_t id[8], here[16], there[16];
+
+/* Few ids, so that calls meet each other's records, and now and then enough to fill a store. */
+static void pick_id(uint8_t *at) {
+    memset(at, 0, 8);
+    at[7] = (uint8_t)(below(3) ? below(3) : below(12));
+}
+
+static void packet(buffer *stores, buffer office_send, buffer frame) {
+    buffer run = make(around(SOCKETLEMON_PACKET_RUN, 200)), both[2] = {stores[0], office_send}, rules = make(around(1, 60));
+    if (rules.len) rules.at[0] = (uint8_t)below(3);
+    keep(run), keep(both[0]), keep(both[1]);
+    answer("packet", socketlemon_packet(both[0].at, both[0].len, both[1].at, both[1].len, frame.at, frame.len, there, here, rules.at, rules.len, below(2), run.at, run.len), run, 2, both);
+    drop(run), drop(rules);
+}
+
+static void random_packet(buffer *stores) {
+    static const uint8_t flags[] = {0x80, 0x10, 0x40, 0x20, 0x08, 0x81, 0x11, 0x41};
+    buffer frame = make(around(SOCKETLEMON_FRAME, 1500));
+    if (frame.len > 60 && below(8)) {
+        pick_id(frame.at);
+        frame.at[8] = below(4) ? flags[below(sizeof flags)] : (uint8_t)next();
+        memset(frame.at + 12, 0, 24);
+        frame.at[18] = (uint8_t)below(6), frame.at[19] = (uint8_t)below(8), frame.at[27] = (uint8_t)below(3), frame.at[34] = (uint8_t)below(6), frame.at[35] = (uint8_t)next();
+    }
+    packet(stores, stores[1], frame);
+    drop(frame);
+}
+
+/* The packets of a run, each handed to the stores that sent it: a node that talks to itself. */
+static void loop_back(buffer *stores, const uint8_t *run, size_t len) {
+    for (size_t at = 0; at + 34 <= len;) {
+        size_t n = run[at] * 256u + run[at + 1];
+        buffer frame = make(SOCKETLEMON_FRAME);
+        memset(frame.at, 0, frame.len);
+        memcpy(frame.at, run + at + 34, n <= frame.len ? n : frame.len);
+        if (below(12) == 0) frame.at[below(60)] ^= 1;
+        if (below(5)) packet(stores, stores[1], frame);
+        frame.at[8] |= 1;
+        if (below(3)) packet(stores, stores[1], frame);
+        drop(frame);
+        at += 34 + n;
+    }
+}
+
+/* A message that was pushed goes on its way, more or less. */
+static void carry(buffer *stores, const uint8_t *run, size_t len) {
+    loop_back(stores, run, len);
+    for (uint64_t clock = 1000; clock < 2000 && below(8); clock += 100) {
+        buffer out = make(SOCKETLEMON_WAKE_RUN);
+        keep(out), keep(stores[1]);
+        socketlemon_answer a = socketlemon_wake(stores[1].at, stores[1].len, 1, id, clock, out.at, out.len);
+        answer("wake", a, out, 1, &stores[1]);
+        if (a.number == 0) loop_back(stores, out.at, (size_t)a.run);
+        drop(out);
+    }
+}
+
+static void one_call(buffer *stores) {
+    buffer send = stores[1], run = {0}, data = {0};
+    pick_id(id);
+    switch (below(7)) {
+    case 0: {
+        data = make(below(4) ? below(3000) : around(32500, 33000)), run = make(around(SOCKETLEMON_PUSH_RUN, 400));
+        buffer topic = make(around(255, 300));
+        keep(run), keep(send);
+        socketlemon_answer a = socketlemon_push(send.at, send.len, id, below(3), there, here, topic.at, topic.len, data.at, data.len, next() >> below(64), next() >> below(64), run.at, run.len);
+        answer("push", a, run, 1, &send);
+        if (a.number == 0) carry(stores, run.at, (size_t)a.run);
+        drop(topic);
+        break;
+    }
+    case 1: {
+        run = make(around(SOCKETLEMON_WAKE_RUN, 40000));
+        keep(run), keep(send);
+        socketlemon_answer a = socketlemon_wake(send.at, send.len, below(9) ? 1 : below(4), id, next() >> below(64), run.at, run.len);
+        answer("wake", a, run, 1, &send);
+        if (a.number == 0) loop_back(stores, run.at, (size_t)a.run);
+        break;
+    }
+    case 2: {
+        run = make(around(SOCKETLEMON_REPORT, 60));
+        keep(run), keep(send);
+        socketlemon_answer a = socketlemon_report(send.at, send.len, id, run.at, run.len);
+        expect("report", a.number <= 25 && a.run == 0 && a.wake == 0 && same_from(send, 0) && same_from(run, a.number ? 0 : SOCKETLEMON_REPORT));
+        break;
+    }
+    case 3: {
+        run = make(around(SOCKETLEMON_TAKE_RUN, 60)), data = make(around(SOCKETLEMON_TAKE_DATA, 33000));
+        keep(run), keep(stores[0]), keep(data);
+        socketlemon_answer a = socketlemon_take(stores[0].at, stores[0].len, data.at, data.len, run.at, run.len);
+        answer("take", a, run, 1, stores);
+        expect("take's data", same_from(data, a.number ? 0 : SOCKETLEMON_TAKE_DATA));
+        break;
+    }
+    case 4: {
+        buffer key = make(around(32, 40));
+        run = make(around(SOCKETLEMON_ADDRESS, 20));
+        keep(run);
+        socketlemon_answer a = socketlemon_address(key.at, key.len, run.at, run.len);
+        expect("address", a.number <= 2 && same_from(run, a.number ? 0 : SOCKETLEMON_ADDRESS));
+        drop(key);
+        break;
+    }
+    default: random_packet(stores);
+    }
+    drop(run), drop(data);
+}
+
+static void sequence(void) {
+    size_t cells = 1 + below(45);
+    buffer stores[2] = {make(SOCKETLEMON_STORE_BYTES(cells)), make(SOCKETLEMON_STORE_BYTES(1 + below(45)))};
+    for (int i = 0; i < 2; i++) {
+        keep(stores[i]);
+        socketlemon_answer a = socketlemon_setup(stores[i].at, stores[i].len - (below(10) == 0), 1 + (uint64_t)i);
+        expect("setup", a.number == 0 || (a.number == 25 && same_from(stores[i], 0)));
+        if (a.number != 0) socketlemon_setup(stores[i].at, stores[i].len, 1 + (uint64_t)i);
+    }
+    for (size_t calls = below(120); calls > 0; calls--) one_call(stores);
+    /* then a few calls on stores that somebody else has written to */
+    for (size_t hits = 1 + below(4); hits > 0; hits--) {
+        buffer hit = stores[below(2)];
+        hit.at[below(4) ? below(16 + 8 * 328) : below(hit.len)] = (uint8_t)(below(2) ? next() : below(48));
+        one_call(stores);
+    }
+    drop(stores[0]), drop(stores[1]);
+}
+
+int main(int argc, char **argv) {
+    state = argc > 1 ? strtoull(argv[1], NULL, 0) * 2 + 1 : 1;
+    for (unsigned long rounds = argc > 2 ? strtoul(argv[2], NULL, 0) : 300; rounds > 0; rounds--) sequence();
+    printf("%lu passed, %lu failed\n", passed, failed);
+    return failed != 0;
+}

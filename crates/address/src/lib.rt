@@ -2,7 +2,7 @@
 
 ghost use mathlib.Core.Path.{_≡_};
 ghost use Prim.Native.Nat.{_<_};
-ghost use Rattle.address.specs.Address.{firstByte, AddressOutcome, addressOf};
+ghost use Rattle.address.specs.Address.{firstByte, addressOf};
 
 // What an address starts with: 4, and the parity of the sum's first byte.
 fn first_byte(x: u8) -> u8

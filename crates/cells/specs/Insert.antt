@@ -25,12 +25,12 @@ use Rattle.laws.specs.Chains.{lead, rowsTo, chain-places, chain-append}
 use Rattle.laws.specs.FreeRow.{free-map}
 use Rattle.laws.specs.RecRow.{rec-length}
 use Rattle.laws.specs.CellRow.{cell-length}
-use Rattle.laws.specs.StoreRows.{rec-places, held-freeCells, held-pieces, held-cells}
+use Rattle.laws.specs.StoreRows.{pieces-places, rec-places, held-freeCells, held-pieces, held-cells}
 use Rattle.laws.specs.Rep.{Rep, rec-once}
 use Rattle.laws.specs.Write.{Wrote, write-field, write-row, held-stay, rec-leaves-head, rec-leaves-cells, cell-leaves-head, cell-leaves-recs, head-write, head-leaves-recs, head-leaves-cells}
 use Rattle.links.specs.Unheld
 use Rattle.links.specs.Swap.{heldStore, row-is, swap-recs}
-use Rattle.links.specs.Release.{rows-pieces, held-around}
+use Rattle.links.specs.Release.{held-around}
 use Rattle.cells.specs.Spot.{linkBehind}
 use Rattle.cells.specs.InPlace.{firstLink}
 use Rattle.cells.specs.Held.{around, sized, pieces-once, pieces-held}
@@ -210,7 +210,7 @@ module _ (role : ℕ) (s : Store) (v : Valid role s) (b : List ℕ) (rep : Rep s
   now-others : Held (cellAt insertBytes) (piecesRows (l ++ (m ++ s .whole)))
   now-others =
       let e : (j : ℕ) → occurs j (places (piecesRows (l ++ (m ++ s .whole)))) ≡ occurs j (piecePlaces (l ++ (m ++ s .whole))) =
-      λ j. ap (occurs j) (rows-pieces (l ++ (m ++ s .whole))) in
+      λ j. ap (occurs j) (pieces-places (l ++ (m ++ s .whole))) in
       keep (piecesRows (l ++ (m ++ s .whole))) (λ j. omega (arith, once j, e j))
       (stay (piecesRows (l ++ (m ++ s .whole))) (λ j. omega (arith, once j, e j))
       (held-around (cellAt b) l r (m ++ s .whole) (subst (λ (y : List Rec). Held (cellAt b) (piecesRows y)) (around role s v l r m is) (held-pieces s (cellAt b) (rep .cells)))))

@@ -2,13 +2,11 @@
 use Prim.Native.Nat.{ℕ, suc, _+_, _≤_, _<_}
 use native.Mathlib.Omega.{arith}
 use mathlib.Core.Path.{_≡_, refl, sym, ap, _∙_, subst}
-use mathlib.Core.Bool.{true, false}
+use mathlib.Core.Bool.{true}
 use mathlib.Core.List.{List, [], _∷_, _++_, map}
 use lib.ListN.{length, length-append}
-use lib.Dec.{eqb}
-use borrow.Author.Tests.{eqb-false, eq-eqb, ne-eqb}
+use borrow.Author.Tests.{eq-eqb, ne-eqb}
 use Rattle.octets.specs.Octets.{put, be}
-use Rattle.octets.specs.Bools.{cases, clash}
 use Rattle.octets.specs.Numbers.{length-be}
 use Rattle.machine.specs.Limits.{cellBytes, storeBytes}
 use Rattle.machine.specs.Codes.{pieceSent, pieceAcked}
@@ -16,8 +14,6 @@ use Rattle.machine.specs.Values.{Cell, Rec, Store}
 use Rattle.machine.specs.Chains.{first}
 use Rattle.machine.specs.Layout.{numberWidth, stampAt, cellPlace, cellRow}
 use Rattle.machine.specs.Sound.{rising, Valid}
-use Rattle.machine.specs.Find.{find, isSome}
-use Rattle.machine.specs.Pieces.{pieceAt}
 use Rattle.machine.specs.Send.{withCells, marked, ackCell, ackPiece, due, stamped}
 use Rattle.laws.specs.Rep.{Rep}
 use Rattle.laws.specs.Write.{Wrote, write-field}
@@ -56,15 +52,6 @@ ack-is low high (a ∷ cl) c cm h =
     later low high (a ∷ cl) c cm h =
         let r = rising-parts low high a (cl ++ (c ∷ cm)) h in
         omega (arith, r .0, later (suc (a .index)) high cl c cm (r .2))
-
--- without a piece at the index nothing changes
-pub ack-none : (i : ℕ) (l : List Cell) → isSome (pieceAt i l) ≡ false → map (ackCell i) l ≡ l
-unfolding find
-ack-none i [] h = refl
-ack-none i (c ∷ l) h =
-    cases (eqb i (c .index))
-    (λ e. let z : true ≡ false = rw e at h in clash refl z)
-    (λ e. rw (ne-eqb (c .index) i (λ q. eqb-false i (c .index) e (sym q))) (ap (λ (x : List Cell). c ∷ x) (ack-none i l (rw e at h))))
 
 -- ---- the store
 

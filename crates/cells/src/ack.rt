@@ -1,9 +1,9 @@
 // A piece of a leaving record is acknowledged.
-use crate::layout::ACKED;
 use crate::pieces::first_link;
 use crate::row::mark;
 use crate::walk::spot;
 use octets::small;
+use rows::cell::ACKED;
 ghost use mathlib.Core.Path.{_≡_};
 ghost use Prim.Native.Nat.{_<_};
 ghost use lib.ListN.{length};

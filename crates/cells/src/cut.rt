@@ -1,10 +1,9 @@
 // The data of a message, cut by 1,300: its pieces take the first free cells, in index order.
-use crate::layout::CUT_BY;
-use crate::layout::FREE_CELLS_AT;
-use crate::layout::cell_at;
 use crate::row::put_cell;
 use octets::copy_in;
 use octets::small;
+use rows::cell::cell_at;
+use rows::head::Head;
 ghost use mathlib.Core.Path.{_≡_};
 ghost use mathlib.Core.Bool.{true};
 ghost use Prim.Native.Nat.{_≤_};
@@ -17,6 +16,9 @@ ghost use Rattle.machine.specs.Pieces.{cutPieces};
 ghost use Rattle.links.specs.Cut.{cutBytes};
 ghost use Rattle.cells.specs.InPlace.{CellIn};
 ghost use Rattle.cells.specs.Cutting.{pieceLaid};
+
+// Data is cut by so many bytes.
+const CUT_BY: usize = rows::message::CUT as usize;
 
 // The first piece of the bytes that are left, in a free cell; answers the next free cell, to which it leads where more bytes follow.
 fn lay(store: &mut [u8], cell: u8, index: u8, bytes: &[u8]) -> u8
@@ -39,7 +41,7 @@ pub fn cut(store: &mut [u8], bytes: &[u8])
     requires { ⌜ (sound roleSend (now store) ≡ true) × (length (now bytes) ≤ longest) × (slotsOf (length (now bytes)) ≤ length (decode (now store) .freeCells)) ⌝ }
     ensures { λ _. ⌜ now (store .exit) ≡ cutBytes (now (store .entry)) (cutPieces (slotsOf (length (now (bytes .entry)))) 0 (decode (now (store .entry)) .freeCells) (now (bytes .entry))) (drop (slotsOf (length (now (bytes .entry)))) (decode (now (store .entry)) .freeCells)) ⌝ }
 {
-    let mut free = store[FREE_CELLS_AT];
+    let mut free = store[Head::FREE_CELLS];
     let mut index: u8 = 0;
     let mut at: usize = 0;
     while at < bytes.len() {
@@ -48,5 +50,5 @@ pub fn cut(store: &mut [u8], bytes: &[u8])
         at += CUT_BY;
     }
     let rest = [free];
-    copy_in(store, FREE_CELLS_AT, &rest);
+    copy_in(store, Head::FREE_CELLS, &rest);
 }

@@ -1,16 +1,15 @@
 // A piece comes to its record: in its own cell where its index is held, and else in the first free cell, in index order.
-use crate::layout::FIRST_CELL_AT;
-use crate::layout::FREE_CELLS_AT;
-use crate::layout::INDEX_AT;
-use crate::layout::SLOTS_AT;
-use crate::layout::cell_at;
-use crate::layout::record_at;
 use crate::row::put_cell;
 use crate::row::rewrite;
 use crate::walk::spot;
 use octets::copy_in;
 use octets::small;
 use octets::wide;
+use rows::cell::Cell;
+use rows::cell::cell_at;
+use rows::head::Head;
+use rows::record::Record;
+use rows::record::record_at;
 ghost use mathlib.Core.Path.{_≡_};
 ghost use mathlib.Core.Bool.{false};
 ghost use Prim.Native.Nat.{_+_, _≤_, _<_, max};
@@ -36,7 +35,7 @@ pub fn grow(store: &mut [u8], place: usize, index: u64)
     requires { ⌜ (1 ≤ place) × (place ≤ recCount) × (recOff place + recBytes ≤ length (now store)) × (index + 1 < 256) ⌝ }
     ensures { λ _. ⌜ now (store .exit) ≡ grown (now (store .entry)) place index ⌝ }
 {
-    let at = record_at(place) + SLOTS_AT;
+    let at = record_at(place) + Record::SLOTS;
     let slots = larger(wide(store[at]), index + 1);
     let one = [slots as u8];
     copy_in(store, at, &one);
@@ -52,7 +51,7 @@ pub fn holds(store: &[u8], link: usize, index: u64) -> bool
         return false;
     }
     let at = cell_at(cell);
-    index == wide(store[at + INDEX_AT])
+    index == wide(store[at + Cell::INDEX])
 }
 
 // A new piece in the first free cell, put into the record's chain at the link at byte `link`.
@@ -60,7 +59,7 @@ pub fn insert(store: &mut [u8], place: usize, link: usize, index: u64, bytes: &[
     requires { ⌜ Links (now store) × LinkIn (now store) link × PieceFits place index (length (now bytes)) × (0 < getD (now store) freeCellsAt 0) ⌝ }
     ensures { λ _. ⌜ now (store .exit) ≡ inserted (now (store .entry)) place link index (now (bytes .entry)) ⌝ }
 {
-    let free = store[FREE_CELLS_AT];
+    let free = store[Head::FREE_CELLS];
     let cell = small(free);
     let at = cell_at(cell);
     let after = store[at];
@@ -68,7 +67,7 @@ pub fn insert(store: &mut [u8], place: usize, link: usize, index: u64, bytes: &[
     grow(store, place, index);
     put_cell(store, cell, next, index as u8, bytes);
     let rest = [after];
-    copy_in(store, FREE_CELLS_AT, &rest);
+    copy_in(store, Head::FREE_CELLS, &rest);
     let here = [free];
     copy_in(store, link, &here);
 }
@@ -78,7 +77,7 @@ fn put_in(store: &mut [u8], place: usize, index: u64, bytes: &[u8])
     requires { ⌜ Links (now store) × PieceFits place index (length (now bytes)) × (holdsIndex (now store) (spotIn (now store) place index) index ≡ false → 0 < getD (now store) freeCellsAt 0) ⌝ }
     ensures { λ _. ⌜ now (store .exit) ≡ chunked (now (store .entry)) place index (now (bytes .entry)) ⌝ }
 {
-    let from = record_at(place) + FIRST_CELL_AT;
+    let from = record_at(place) + Record::FIRST_CELL;
     let link = spot(store, from, index);
     if holds(store, link, index) {
         let cell = small(store[link]);

@@ -3,7 +3,6 @@
 pub mod ack;
 pub mod cut;
 pub mod insert;
-pub mod layout;
 pub mod pieces;
 pub mod row;
 pub mod walk;

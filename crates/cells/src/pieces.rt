@@ -1,15 +1,14 @@
 // What the pieces of a held record are: how many, how many bytes, how many in a state, whether there is one at an index, and all of them joined.
 // `at` is the byte where the link to the record stands.
 use crate::insert::holds;
-use crate::layout::FIRST_CELL_AT;
-use crate::layout::LONGEST;
-use crate::layout::record_at;
 use crate::walk::cells;
 use crate::walk::count;
 use crate::walk::join;
 use crate::walk::spot;
 use crate::walk::total;
 use octets::small;
+use rows::record::Record;
+use rows::record::record_at;
 ghost use mathlib.Core.Path.{_≡_};
 ghost use mathlib.Core.List.{map};
 ghost use Prim.Native.Nat.{ℕ, _≤_};
@@ -25,16 +24,19 @@ ghost use Rattle.machine.specs.Pieces.{pieceAt, joined};
 ghost use Rattle.store.specs.HeldAt.{placeAt, recIn, HeldAt};
 ghost use Rattle.cells.specs.InPlace.{pieceState, firstLink, LinkIn};
 
+// The most bytes that a message has.
+pub const LONGEST: usize = rows::message::LONGEST as usize;
+
 // The byte of the record's link to its first cell.
 pub fn first_link(store: &[u8], at: usize) -> usize
     requires { ⌜ ((role : ℕ) × HeldAt role (now store) at) ⌝ }
     ensures { λ r. ⌜ (r ≡ firstLink (placeAt (now (store .entry)) at)) × LinkIn (now (store .entry)) r ⌝ }
 {
-    record_at(small(store[at])) + FIRST_CELL_AT
+    record_at(small(store[at])) + Record::FIRST_CELL
 }
 
 // The record's first cell, 0 for none.
-fn first_cell(store: &[u8], at: usize) -> usize
+pub fn first_cell(store: &[u8], at: usize) -> usize
     requires { ⌜ ((role : ℕ) × HeldAt role (now store) at) ⌝ }
     ensures { λ r. ⌜ (r ≡ getD (now (store .entry)) (firstLink (placeAt (now (store .entry)) at)) 0) × (r ≤ getD (now (store .entry)) countAt 0) ⌝ }
 {

@@ -1,15 +1,11 @@
 // The row of one cell: a piece written into it, and a piece's stamp and state.
-use crate::layout::BYTES_AT;
-use crate::layout::INDEX_AT;
-use crate::layout::LARGEST_PIECE;
-use crate::layout::SIZE_AT;
-use crate::layout::STAMP_AT;
-use crate::layout::STATE_AT;
-use crate::layout::cell_at;
 use octets::copy_in;
 use octets::fill;
 use octets::put16;
 use octets::put64;
+use rows::cell::Cell;
+use rows::cell::LARGEST;
+use rows::cell::cell_at;
 ghost use mathlib.Core.Path.{_≡_};
 ghost use Prim.Native.Nat.{_≤_};
 ghost use lib.ListN.{length};
@@ -28,10 +24,10 @@ pub fn put_cell(store: &mut [u8], cell: usize, next: u8, index: u8, bytes: &[u8]
     let size = bytes.len();
     let front = [next, index];
     copy_in(store, at, &front);
-    put16(store, at + SIZE_AT, size as u64);
-    fill(store, at + STAMP_AT, BYTES_AT - STAMP_AT, 0);
-    copy_in(store, at + BYTES_AT, bytes);
-    fill(store, at + BYTES_AT + size, LARGEST_PIECE - size, 0);
+    put16(store, at + Cell::SIZE, size as u64);
+    fill(store, at + Cell::STAMP, Cell::PIECE - Cell::STAMP, 0);
+    copy_in(store, at + Cell::PIECE, bytes);
+    fill(store, at + Cell::PIECE + size, LARGEST - size, 0);
 }
 
 // A piece replaced in its own cell, which keeps its link and its index.
@@ -41,7 +37,7 @@ pub fn rewrite(store: &mut [u8], cell: usize, bytes: &[u8])
 {
     let at = cell_at(cell);
     let next = store[at];
-    let index = store[at + INDEX_AT];
+    let index = store[at + Cell::INDEX];
     put_cell(store, cell, next, index, bytes);
 }
 
@@ -51,7 +47,7 @@ pub fn mark(store: &mut [u8], cell: usize, stamp: u64, state: u8)
     ensures { λ _. ⌜ now (store .exit) ≡ remarked (now (store .entry)) cell stamp state ⌝ }
 {
     let at = cell_at(cell);
-    put64(store, at + STAMP_AT, stamp);
+    put64(store, at + Cell::STAMP, stamp);
     let one = [state];
-    copy_in(store, at + STATE_AT, &one);
+    copy_in(store, at + Cell::STATE, &one);
 }

@@ -1,15 +1,12 @@
 // Walks along a chain of cells: the spot of an index, the pieces joined, and how many cells, bytes and pieces of a state there are.
-use crate::layout::BYTES_AT;
-use crate::layout::FREE_CELLS_AT;
-use crate::layout::INDEX_AT;
-use crate::layout::MOST_STEPS;
-use crate::layout::SIZE_AT;
-use crate::layout::STATE_AT;
-use crate::layout::cell_at;
 use octets::copy_in;
 use octets::get16;
 use octets::small;
 use octets::wide;
+use rows::cell::Cell;
+use rows::cell::STEPS;
+use rows::cell::cell_at;
+use rows::head::Head;
 ghost use mathlib.Core.Path.{_≡_};
 ghost use mathlib.Core.List.{map};
 ghost use Prim.Native.Nat.{_+_, _≤_};
@@ -31,13 +28,13 @@ pub fn spot(store: &[u8], at: usize, index: u64) -> usize
 {
     let mut link = at;
     let mut n: usize = 0;
-    while n < MOST_STEPS {
+    while n < STEPS {
         let x = small(store[link]);
         if x == 0 {
             return link;
         }
         let cell = cell_at(x);
-        if index <= wide(store[cell + INDEX_AT]) {
+        if index <= wide(store[cell + Cell::INDEX]) {
             return link;
         }
         link = cell;
@@ -52,8 +49,8 @@ fn copy_piece(store: &[u8], cell: usize, out: &mut [u8], at: usize) -> usize
     ensures { λ r. ⌜ (r ≡ at + length (readCell (now (store .entry)) cell .bytes)) × (now (out .exit) ≡ put (now (out .entry)) at (readCell (now (store .entry)) cell .bytes)) ⌝ }
 {
     let from = cell_at(cell);
-    let size = get16(store, from + SIZE_AT) as usize;
-    let start = from + BYTES_AT;
+    let size = get16(store, from + Cell::SIZE) as usize;
+    let start = from + Cell::PIECE;
     let end = start + size;
     copy_in(out, at, &store[start..end]);
     at + size
@@ -67,7 +64,7 @@ pub fn join(store: &[u8], first: usize, out: &mut [u8]) -> usize
     let mut x = first;
     let mut at: usize = 0;
     let mut n: usize = 0;
-    while n < MOST_STEPS {
+    while n < STEPS {
         if x == 0 {
             return at;
         }
@@ -94,12 +91,12 @@ pub fn count(store: &[u8], first: usize, state: u8) -> u64
     let mut x = first;
     let mut found: u64 = 0;
     let mut n: usize = 0;
-    while n < MOST_STEPS {
+    while n < STEPS {
         if x == 0 {
             return found;
         }
         let cell = cell_at(x);
-        found = found + same(state, store[cell + STATE_AT]);
+        found = found + same(state, store[cell + Cell::STATE]);
         x = small(store[cell]);
         n += 1;
     }
@@ -114,7 +111,7 @@ pub fn cells(store: &[u8], first: usize) -> u64
     let mut x = first;
     let mut found: u64 = 0;
     let mut n: usize = 0;
-    while n < MOST_STEPS {
+    while n < STEPS {
         if x == 0 {
             return found;
         }
@@ -134,12 +131,12 @@ pub fn total(store: &[u8], first: usize) -> u64
     let mut x = first;
     let mut sum: u64 = 0;
     let mut n: usize = 0;
-    while n < MOST_STEPS {
+    while n < STEPS {
         if x == 0 {
             return sum;
         }
         let cell = cell_at(x);
-        sum = sum + get16(store, cell + SIZE_AT);
+        sum = sum + get16(store, cell + Cell::SIZE);
         x = small(store[cell]);
         n += 1;
     }
@@ -151,5 +148,5 @@ pub fn count_free(store: &[u8]) -> u64
     requires { ⌜ Links (now store) ⌝ }
     ensures { λ r. ⌜ (r ≡ length (cellChain (now (store .entry)) (getD (now (store .entry)) freeCellsAt 0))) × (r ≤ 46) ⌝ }
 {
-    cells(store, small(store[FREE_CELLS_AT]))
+    cells(store, small(store[Head::FREE_CELLS]))
 }

@@ -2,9 +2,9 @@
 use Prim.Native.Nat.{ℕ, _+_, _-_, _≤_, _<_}
 use native.Mathlib.Omega.{arith}
 use mathlib.Core.Path.{_≡_, refl, sym, ap, _∙_}
-use mathlib.Core.Bool.{Bool, true, false, not, _&&_, cond}
+use mathlib.Core.Bool.{Bool, true, false, not, _&&_}
 use mathlib.Core.List.{List, [], _∷_}
-use mathlib.Core.Option.{Option, none, some}
+use mathlib.Core.Option.{Option, some}
 use lib.ListN.{length, getD}
 use lib.Dec.{eqb, leb, ltb}
 use borrow.Author.Tests.{le-leb, lt-leb, leb-true, leb-false, ltb-true, ltb-false, eq-eqb, ne-eqb}
@@ -25,7 +25,7 @@ use Rattle.steps.specs.Refusals.{refusal-clear}
 use Rattle.store.specs.HeldAt.{metAt, rowIn, recIn, keyIn, HeldAt, Receives}
 use Rattle.store.specs.Met.{held-met, sought-key, sought-held}
 use Rattle.store.specs.Seek.{seek}
-use Rattle.store.specs.Refuse.{next, stop, clear, refused, done, stepped}
+use Rattle.store.specs.Refuse.{next, stop, clear}
 
 -- ---- single rows
 

@@ -1,6 +1,6 @@
 -- The ways out of an init's refusals. Assumes nothing.
 use Prim.Native.Nat.{ℕ, _≤_, _<_}
-use mathlib.Core.Path.{_≡_, refl, sym, ap, _∙_}
+use mathlib.Core.Path.{_≡_, sym, ap, _∙_}
 use mathlib.Core.Bool.{Bool, true, false, not, _||_}
 use mathlib.Core.List.{List, [], _∷_}
 use native.Mathlib.Omega.{arith}
@@ -16,8 +16,7 @@ use Rattle.machine.specs.Values.{Rec, Store, Key}
 use Rattle.machine.specs.Find.{isSome}
 use Rattle.machine.specs.Receive.{found}
 use Rattle.machine.specs.Refusals.{refusal}
-use Rattle.machine.specs.Calls.{Packet, asked, isReply, initRow}
-use Rattle.inbox.specs.Arrives.{rulesRow}
+use Rattle.machine.specs.Calls.{Packet, asked, isReply, initRow, rulesRow}
 use Rattle.store.specs.Refuse.{next, stop, clear}
 
 -- rows 3 and 4, of a book that is read

@@ -12,23 +12,23 @@ use Rattle.octets.specs.Octets.{Bytes}
 use Rattle.octets.specs.Bools.{one}
 use Rattle.octets.specs.Parts.{length-part, length-part-le}
 use Rattle.packet.specs.Frame.{idOf, initLength, initTopic}
-use Rattle.machine.specs.Limits.{longest, largestTopic}
+use Rattle.machine.specs.Limits.{longest}
 use Rattle.machine.specs.Codes.{roleReceive}
-use Rattle.machine.specs.Values.{Head, Rec, keyOf}
+use Rattle.machine.specs.Values.{Rec}
 use Rattle.machine.specs.Layout.{heldAt, freeAt, addressWidth, encode, decode}
 use Rattle.machine.specs.Find.{isSome}
 use Rattle.machine.specs.Receive.{found, initAt, initStep}
 use Rattle.machine.specs.Refusals.{refusal}
-use Rattle.machine.specs.Calls.{Packet, asked, initHead, frameBytes, isReply, initRow}
+use Rattle.machine.specs.Calls.{Packet, asked, initHead, frameBytes, isReply, initRow, arrival}
 use Rattle.steps.specs.Find.{is-none}
 use Rattle.steps.specs.Refusals.{refusal-clear}
 use Rattle.links.specs.InRange.{links}
-use Rattle.store.specs.HeldAt.{placeAt, recIn, keyIn, HeldAt, Receives}
+use Rattle.store.specs.HeldAt.{recIn, keyIn, HeldAt, Receives}
 use Rattle.store.specs.Seek.{seek}
 use Rattle.store.specs.Met.{found-none, found-some, sought-key, sought-held}
 use Rattle.store.specs.Opening.{newHead, FieldsFit, Ready}
 use Rattle.store.specs.Established.{openable, free-is}
-use Rattle.inbox.specs.Arrives.{arrival, Startable}
+use Rattle.inbox.specs.Arrives.{Startable}
 
 -- the refusals leave what is asked
 pub startable : (p : Packet) (b : List ℕ) → refusal (initRow p (decode b)) ≡ 0 → Startable (decode b) (p .frame)

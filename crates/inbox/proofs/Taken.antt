@@ -2,7 +2,7 @@
 use Prim.Native.Nat.{ℕ, _+_, _≤_, _<_}
 use native.Mathlib.Omega.{arith}
 use mathlib.Core.Path.{_≡_, refl, sym, ap, _∙_}
-use mathlib.Core.Bool.{Bool, true, false, _&&_}
+use mathlib.Core.Bool.{Bool, false, _&&_}
 use mathlib.Core.List.{List, [], _∷_, _++_}
 use lib.ListN.{length, getD}
 use lib.Dec.{leb}
@@ -21,7 +21,7 @@ use Rattle.machine.specs.Outcomes.{TakeOutcome}
 use Rattle.machine.specs.Calls.{takeRoom, takenRoom, oldestRow, takeAt, takenBytes, takeOut}
 use Rattle.store.specs.Refuse.{next, stop, clear}
 use Rattle.store.specs.HeldAt.{rowIn, recIn}
-use Rattle.inbox.specs.Oldest.{Oldest, none-whole, younger, some-whole, oldest-sized}
+use Rattle.inbox.specs.Oldest.{Oldest, none-whole, some-whole, oldest-sized}
 
 module _ (b taken out : List ℕ) where
   abbrev row : ℕ

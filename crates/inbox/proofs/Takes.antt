@@ -10,7 +10,6 @@ use Rattle.octets.specs.Octets.{put}
 use Rattle.octets.specs.Parts.{length-part, length-part-le, length-put, more}
 use Rattle.machine.specs.Limits.{recBytes}
 use Rattle.packet.specs.Outgoing.{entry, header, readPacket}
-use Rattle.machine.specs.Values.{Head}
 use Rattle.machine.specs.Layout.{wholeAt, firstCellAt, recOff, headOf, recOf, readCells}
 use Rattle.machine.specs.Pieces.{joined}
 use Rattle.machine.specs.Sound.{sizes}

@@ -1,17 +1,17 @@
 -- The oldest whole record, in sound bytes. Assumes nothing.
-use Prim.Native.Nat.{ℕ, suc, _+_, _≤_, _<_}
+use Prim.Native.Nat.{ℕ, _≤_, _<_}
 use native.Mathlib.Omega.{arith}
-use mathlib.Core.Path.{_≡_, refl, sym, ap, _∙_, subst}
+use mathlib.Core.Path.{_≡_, refl, subst}
 use mathlib.Core.Bool.{true}
-use mathlib.Core.List.{List, [], _∷_, _++_, map}
-use lib.ListN.{length, getD}
-use borrow.Author.Tests.{eq-eqb, ne-eqb, eqb-true}
+use mathlib.Core.List.{List, [], _∷_, map}
+use lib.ListN.{getD}
+use borrow.Author.Tests.{eq-eqb, ne-eqb}
 use Rattle.octets.specs.Octets.{Bytes}
 use Rattle.octets.specs.Lists.{All, all-right}
 use Rattle.octets.specs.Parts.{getD-part}
-use Rattle.machine.specs.Limits.{recCount, recBytes, storeBytes}
+use Rattle.machine.specs.Limits.{recCount, recBytes}
 use Rattle.machine.specs.Codes.{roleReceive, kindWhole}
-use Rattle.machine.specs.Values.{Rec, Store}
+use Rattle.machine.specs.Values.{Rec}
 use Rattle.machine.specs.Chains.{link, walk}
 use Rattle.machine.specs.Layout.{wholeAt, countAt, firstCellAt, recOff, recAt, headOf, recOf, readCells, readRec, decode}
 use Rattle.machine.specs.Sound.{sizes, recFits, HeadSized, RecSized, Valid}

@@ -6,13 +6,12 @@ use topic::Admission;
 ghost use mathlib.Core.Path.{_≡_};
 ghost use lib.ListN.{length};
 ghost use Rattle.topic.specs.Admission.{admissionOf, numberOf};
-ghost use Rattle.packet.specs.Frame.{initTopic};
 ghost use mathlib.Core.List.{[]};
 ghost use Rattle.machine.specs.Layout.{encode, decode};
 ghost use Rattle.machine.specs.Receive.{initStep};
 ghost use Rattle.machine.specs.Refusals.{refusal};
-ghost use Rattle.machine.specs.Calls.{frameBytes, initRow, initHead};
-ghost use Rattle.inbox.specs.Arrives.{arrival, rulesRow, Startable};
+ghost use Rattle.machine.specs.Calls.{frameBytes, initRow, initHead, arrival, rulesRow};
+ghost use Rattle.inbox.specs.Arrives.{Startable};
 ghost use Rattle.store.specs.Refuse.{stepped};
 ghost use Rattle.store.specs.HeldAt.{Receives};
 

@@ -1,7 +1,7 @@
 -- The tests of a record as facts (`Fine`), and what follows of its fields and pieces, for the laws of operations. Assumes nothing.
 use Prim.Native.Nat.{ℕ, suc, _-_, _≤_, _<_}
 use native.Mathlib.Omega.{arith}
-use mathlib.Core.Path.{_≡_, sym, _∙_}
+use mathlib.Core.Path.{_≡_}
 use mathlib.Core.Bool.{true, _&&_, _||_, not, cond}
 use mathlib.Core.List.{List, [], _∷_}
 use lib.ListN.{length}
@@ -11,7 +11,7 @@ use Rattle.octets.specs.Bools.{cases, split}
 use Rattle.octets.specs.Lists.{All, all-true, true-all}
 use Rattle.machine.specs.Limits.{longest, cutBy, slotsOf, mostSlots}
 use Rattle.machine.specs.Codes.{roleReceive, kindArriving, kindLeaving, stateAborted, pieceSent, pieceAcked}
-use Rattle.machine.specs.Values.{Cell, Sending, Rec, idle}
+use Rattle.machine.specs.Values.{Cell, Sending, Rec}
 use Rattle.machine.specs.Sound.{idleTests, sendingFits, cellFits, rising, sizes, isComplete, isCut, recTests, recFits}
 use Rattle.laws.specs.Tests.{_&_, every-true, true-every}
 
@@ -75,17 +75,6 @@ sending-small role x h =
     (λ e. let t = split (leb (x .state) stateAborted) (leb (x .timedOut) 1) (rw e at h) in
     (leb-true (x .state) stateAborted (t .0), leb-true (x .timedOut) 1 (t .1)))
 
--- a receiver has none
-pub sending-idle : (x : Sending) → sendingFits roleReceive x ≡ true → x ≡ idle
-sending-idle x h =
-    let t = every-true (idleTests x) h in
-    λ i. record {
-      state = eqb-true (x .state) 0 (t .0) i;
-      timedOut = eqb-true (x .timedOut) 0 (t .1 .0) i;
-      created = eqb-true (x .created) 0 (t .1 .1 .0) i;
-      end = eqb-true (x .end) 0 (t .1 .1 .1 .0) i;
-    }
-
 pub cell-small : (role : ℕ) (c : Cell) → cellFits role c ≡ true → c .state ≤ pieceAcked
 cell-small role c h =
     cases (eqb role roleReceive)
@@ -111,7 +100,3 @@ cut-count n (c ∷ l) h =
     let s = split (ltb 0 n && eqb (length (c .bytes)) (cond (leb n cutBy) n cutBy)) (isCut (n - cutBy) l) h in
     let t = split (ltb 0 n) (eqb (length (c .bytes)) (cond (leb n cutBy) n cutBy)) (s .0) in
     omega (arith, ltb-true 0 n (t .0), cut-count (n - cutBy) l (s .1))
-
--- so a leaving record has just as many slots
-pub leaving-slots : (role : ℕ) (r : Rec) → Fine role kindLeaving r → r .slots ≡ slotsOf (r .head .total)
-leaving-slots role r f = sym (fine-complete role kindLeaving r (λ e. omega arith) f .0) ∙ cut-count (r .head .total) (r .cells) (f .cut)

@@ -1,4 +1,4 @@
--- A fresh store is valid, so its bytes are sound; and setup's lengths are those of fresh stores. Assumes nothing.
+-- A fresh store is valid, and setup's lengths are those of fresh stores. Assumes nothing.
 use Prim.Native.Nat.{ℕ, _≤_, _<_}
 use native.Mathlib.Omega.{arith}
 use mathlib.Core.Path.{_≡_, refl, ap, _∙_}
@@ -6,16 +6,15 @@ use mathlib.Core.Bool.{true, _&&_}
 use mathlib.Core.List.{append-nil}
 use lib.ListN.{length}
 use lib.Dec.{eqb, ltb}
-use borrow.Author.Tests.{eqb-true, eq-eqb, ltb-true}
-use Rattle.octets.specs.Bools.{cases, split, both}
+use borrow.Author.Tests.{eqb-true, ltb-true}
+use Rattle.octets.specs.Bools.{cases, split}
 use Rattle.machine.specs.Limits.{recCount, mostCells, storeBytes}
 use Rattle.machine.specs.Codes.{roleReceive, isRole}
 use Rattle.machine.specs.Counting.{occurs, inside, rise}
 use Rattle.machine.specs.Layout.{encode}
-use Rattle.machine.specs.Sound.{distinct, sound, Valid, fresh, room, setupCells, allowed}
-use Rattle.laws.specs.Counting.{inside-is, is-inside, rise-once}
+use Rattle.machine.specs.Sound.{distinct, Valid, fresh, room, setupCells, allowed}
+use Rattle.laws.specs.Counting.{inside-is, rise-once}
 use Rattle.laws.specs.Rep.{length-encode}
-use Rattle.laws.specs.ValidSound.{valid-sound}
 
 pub fresh-valid : (role cells : ℕ) → isRole role ≡ true → 1 ≤ cells → cells ≤ mostCells → Valid role (fresh role cells)
 unfolding distinct
@@ -33,9 +32,6 @@ fresh-valid role cells r a b = record {
   sized = tt;
 }
 
-pub fresh-sound : (role cells : ℕ) → isRole role ≡ true → 1 ≤ cells → cells ≤ mostCells → sound role (encode (fresh role cells)) ≡ true
-fresh-sound role cells r a b = valid-sound role (fresh role cells) (fresh-valid role cells r a b) .0
-
 -- ---- setup
 
 -- a length that stands for some C is that of a store of C cells, and C is from 1 to 45
@@ -45,15 +41,6 @@ setup-length n h =
     (λ e. let s = split (inside mostCells (room n)) (eqb (storeBytes (room n)) n) e in
     rw e (eqb-true (storeBytes (room n)) n (s .1), inside-is mostCells (room n) (s .0) .1))
     (λ e. absurd (let z : 0 < 0 = rw e at h in omega arith))
-
--- the length of a store of C cells stands for C
-pub length-setup : (cells : ℕ) → 1 ≤ cells → cells ≤ mostCells → setupCells (storeBytes cells) ≡ cells
-length-setup cells a b =
-    let e : room (storeBytes cells) ≡ cells = omega arith in
-    rw (both (inside mostCells (room (storeBytes cells))) (eqb (storeBytes (room (storeBytes cells))) (storeBytes cells))
-    (ap (inside mostCells) e ∙ is-inside mostCells cells a b)
-    (eq-eqb (storeBytes (room (storeBytes cells))) (storeBytes cells) (ap storeBytes e)))
-    e
 
 -- what setup makes of allowed bytes: a valid store, as long as they are
 pub setup-valid : (n role : ℕ) → allowed n role ≡ true → Valid role (fresh role (setupCells n)) × (length (encode (fresh role (setupCells n))) ≡ n)

@@ -29,7 +29,7 @@ rows-append (r ∷ l) m =
 
 -- ---- places
 
-pieces-places : (l : List Rec) → places (piecesRows l) ≡ piecePlaces l
+pub pieces-places : (l : List Rec) → places (piecesRows l) ≡ piecePlaces l
 pieces-places [] = refl
 pieces-places (r ∷ l) =
     places-append (chainRows cellPlace cellRow (r .cells)) (piecesRows l) ∙ (λ i. chain-places cellPlace cellRow (r .cells) i ++ pieces-places l i)

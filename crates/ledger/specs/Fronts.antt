@@ -3,13 +3,11 @@ use Prim.Native.Nat.{ℕ}
 use mathlib.Core.Path.{_≡_, refl, _∙_}
 use mathlib.Core.Bool.{true}
 use mathlib.Core.List.{List, [], _∷_, _++_}
-use lib.ListN.{length}
-use lib.Dec.{eqb, leb}
 use Rattle.machine.specs.Codes.{roleReceive, roleSend}
 use Rattle.machine.specs.Layout.{decode}
 use Rattle.machine.specs.Sound.{sound}
 use Rattle.machine.specs.Refusals.{Refusals, refusal}
-use Rattle.machine.specs.Calls.{Packet, kind, isKind, frameBytes, packetRoom, kindRow, packetRow, packetDone, Push, pushRow, wakeRow, oldestRow, takeRow, takeOf}
+use Rattle.machine.specs.Calls.{Packet, kind, kindRow, packetFront, packetRow, packetDone, Push, pushRow, wakeRow, oldestRow, takeRow, takeOf}
 use Rattle.steps.specs.Refusals.{Clear, refusal-front}
 use Rattle.ledger.specs.Refused.{packet-number, take-number}
 
@@ -18,16 +16,6 @@ front-refusal : (front row : Refusals) → Clear front → refusal (front ++ row
 unfolding refusal
 front-refusal [] row c = refl
 front-refusal (t ∷ front) row c = rw (c .0) (front-refusal front row (c .1))
-
--- packet 25, 1, 20, 2, then its kind's
-abbrev pub packetFront : Packet → List ℕ → List ℕ → List ℕ → Refusals
-packetFront p recv send out =
-    (sound roleReceive recv, 25)
-    ∷ (sound roleSend send, 25)
-    ∷ (eqb (length (p .frame)) frameBytes, 1)
-    ∷ (isKind (kind p), 20)
-    ∷ (leb packetRoom (length out), 2)
-    ∷ []
 
 module _ (p : Packet) (recv send out : List ℕ) where
   -- what stands behind it

@@ -21,13 +21,12 @@ use Rattle.laws.specs.Rows.{Held, held-right, held-join, held-same}
 use Rattle.laws.specs.Chains.{rowsTo}
 use Rattle.laws.specs.CellRow.{cell-length}
 use Rattle.laws.specs.FreeRow.{free-map}
-use Rattle.laws.specs.StoreRows.{held-cells, held-freeCells, held-pieces}
+use Rattle.laws.specs.StoreRows.{pieces-places, held-cells, held-freeCells, held-pieces}
 use Rattle.laws.specs.Rep.{Rep, rec-once}
 use Rattle.laws.specs.Walks.{cells-once}
 use Rattle.links.specs.Link.{rows-append, chain-rows, rows-places}
 use Rattle.links.specs.Laid.{laid, Fitting, laid-length, laid-other, laid-before, laid-held}
 use Rattle.links.specs.Open.{Ready, withFreeCells, withRec}
-use Rattle.links.specs.Release.{rows-pieces}
 
 -- the bytes b with the pieces `cells` laid down and `spare` as what is free still
 abbrev pub cutBytes : List ℕ → List Cell → List ℕ → List ℕ
@@ -90,7 +89,7 @@ module _ (role : ℕ) (s : Store) (v : Valid role s) (b : List ℕ) (rep : Rep s
       (laid-held cellPlace cellRow (storeBytes 0) cellBytes 0 (r .cells) b fitting (λ k. omega (arith, counted k, one-le (inside C k)))))
 
   old-rows : Held (cellAt c2) (piecesRows (s .held ++ s .whole))
-  old-rows = stay (piecesRows (s .held ++ s .whole)) (λ k. omega (arith, counted k, ap (occurs k) (rows-pieces (s .held ++ s .whole)))) (held-pieces s (cellAt b) (rep .cells))
+  old-rows = stay (piecesRows (s .held ++ s .whole)) (λ k. omega (arith, counted k, ap (occurs k) (pieces-places (s .held ++ s .whole)))) (held-pieces s (cellAt b) (rep .cells))
 
   heads : put (headRow s) freeCellsAt (first spare ∷ []) ≡ headRow (withFreeCells spare s)
   unfolding put

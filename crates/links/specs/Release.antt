@@ -21,15 +21,10 @@ use Rattle.laws.specs.Counting.{one-inside, occurs-append}
 use Rattle.laws.specs.Rows.{Held, held-left, held-right, held-join, held-same, places-append}
 use Rattle.laws.specs.Chains.{lead, chain-places}
 use Rattle.laws.specs.FreeRow.{free-map}
-use Rattle.laws.specs.StoreRows.{pieces-append, rows-append, held-recs, held-cells, held-freeCells}
+use Rattle.laws.specs.StoreRows.{pieces-places, pieces-append, rows-append, held-recs, held-cells, held-freeCells}
 use Rattle.laws.specs.Rep.{Rep}
 use Rattle.links.specs.FreeRecord.{recFreed, recFreed-long, recFreed-cells, recFreed-head, recFreed-lines, recFreed-chain}
 use Rattle.links.specs.FreeCells.{cellsFreed, freed-long, freed-recs, freed-head, freed-lines, freed-chain}
-
--- the places of the rows of pieces
-pub rows-pieces : (l : List Rec) → places (piecesRows l) ≡ piecePlaces l
-rows-pieces [] = refl
-rows-pieces (r ∷ l) = places-append (chainRows cellPlace cellRow (r .cells)) (piecesRows l) ∙ (λ i. chain-places cellPlace cellRow (r .cells) i ++ rows-pieces l i)
 
 -- pieces with those of r apart
 pub pieces-around : (l : List Rec) (r : Rec) (m : List Rec) (k : ℕ) → occurs k (piecePlaces (l ++ (r ∷ m))) ≡ occurs k (map cellPlace (r .cells)) + occurs k (piecePlaces (l ++ m))
@@ -102,7 +97,7 @@ module _ (s : Store) (b u : List ℕ) (r : Rec) (H W : List Rec) (rep : Rep s b)
       (λ k q. recFreed-cells C u (s .free) (r .place) lines (loose .size) recs-counted (loose .free) (loose .lines) k ∙ loose .cells k) h
 
   freeable : (k : ℕ) → occurs k ps + (occurs k (s .freeCells) + occurs k (places (piecesRows (H ++ W)))) ≤ one (inside C k)
-  freeable k = omega (arith, loose .counted k, ap (occurs k) (rows-pieces (H ++ W)))
+  freeable k = omega (arith, loose .counted k, ap (occurs k) (pieces-places (H ++ W)))
 
   w-free : Held (cellAt w) (chainRows freePlace (freeRow cellBytes) (s .freeCells))
   w-free = w-held (chainRows freePlace (freeRow cellBytes) (s .freeCells)) (held-freeCells s (cellAt b) (rep .cells))

@@ -19,14 +19,14 @@ use Rattle.machine.specs.Receive.{freedCells}
 use Rattle.laws.specs.Counting.{one-inside}
 use Rattle.laws.specs.Rows.{Held, held-right, held-same}
 use Rattle.laws.specs.Chains.{lead, rowsTo}
-use Rattle.laws.specs.StoreRows.{freeRows, wholeRows, rec-places, held-held, held-cells, held-freeCells, held-pieces}
+use Rattle.laws.specs.StoreRows.{freeRows, wholeRows, pieces-places, rec-places, held-held, held-cells, held-freeCells, held-pieces}
 use Rattle.laws.specs.Rep.{Rep, rec-once}
 use Rattle.laws.specs.Walks.{cells-once}
 use Rattle.laws.specs.Write.{Wrote, rec-leaves-head, rec-leaves-cells, chain-swap}
 use Rattle.links.specs.Link.{rows-append, chain-rows}
 use Rattle.links.specs.Unheld
 use Rattle.links.specs.FreeCells.{cellsFreed, freed-long, freed-recs, freed-head, freed-lines, freed-chain}
-use Rattle.links.specs.Release.{rows-pieces, pieces-around, held-around}
+use Rattle.links.specs.Release.{pieces-around, held-around}
 
 -- s with the records H held and other free cells
 abbrev pub heldStore : Store → List Rec → List ℕ → Store
@@ -118,7 +118,7 @@ module _ (role : ℕ) (s : Store) (v : Valid role s) (b : List ℕ) (rep : Rep s
             arith,
             cells-once role s v k,
             ap (λ (x : List Rec). occurs k (piecePlaces x)) all-pieces ∙ pieces-around l r (m ++ s .whole) k,
-            ap (occurs k) (rows-pieces (l ++ (m ++ s .whole))),
+            ap (occurs k) (pieces-places (l ++ (m ++ s .whole))),
           )
 
       free : Held (cellAt c) (chainRows freePlace (freeRow cellBytes) (s .freeCells))

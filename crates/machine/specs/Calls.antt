@@ -77,12 +77,15 @@ initHead p = record {
   topic = initTopic (p .frame);
 }
 
--- init 3, 4, 5, 6, 7; "reply inits skip" the rule book
+-- init 3, 4; "reply inits skip" the rule book
+abbrev pub rulesRow : Packet → Refusals
+rulesRow p = (isReply p || wellFormed (p .rules), 3) ∷ (isReply p || admits (p .rules) (initTopic (p .frame)) (p .from), 4) ∷ []
+
+-- init 3, 4, 5, 6, 7
 abbrev pub initRow : Packet → Store → Refusals
 initRow p s =
-    (isReply p || wellFormed (p .rules), 3)
-    ∷ (isReply p || admits (p .rules) (initTopic (p .frame)) (p .from), 4)
-    ∷ (not (isSome (found (asked p) (s .whole))), 5)
+    rulesRow p
+    ++ (not (isSome (found (asked p) (s .whole))), 5)
     ∷ (leb (initLength (p .frame)) longest, 6)
     ∷ (isSome (found (asked p) (s .held)) || ltb 0 (length (s .free)), 7)
     ∷ []
@@ -210,15 +213,19 @@ packetRoom = 86
 abbrev pub frameBytes : ℕ
 frameBytes = 1400
 
--- packet 25, 1, 20, 2, then its kind's
-unfoldable pub packetRow : Packet → List ℕ → List ℕ → List ℕ → Refusals
-packetRow p recv send out =
+-- packet 25, 1, 20, 2
+abbrev pub packetFront : Packet → List ℕ → List ℕ → List ℕ → Refusals
+packetFront p recv send out =
     (sound roleReceive recv, 25)
     ∷ (sound roleSend send, 25)
     ∷ (eqb (length (p .frame)) frameBytes, 1)
     ∷ (isKind (kind p), 20)
     ∷ (leb packetRoom (length out), 2)
-    ∷ kindRow (kind p) p (decode recv) (decode send)
+    ∷ []
+
+-- .. then its kind's
+unfoldable pub packetRow : Packet → List ℕ → List ℕ → List ℕ → Refusals
+packetRow p recv send out = packetFront p recv send out ++ kindRow (kind p) p (decode recv) (decode send)
 
 -- what is left of it, with the number that its row gives
 abbrev pub packetAt : ℕ → Packet → List ℕ → List ℕ → List ℕ → PacketOutcome
@@ -239,9 +246,11 @@ abbrev pub packetDone : Packet → List ℕ → List ℕ → List ℕ → Packet
 packetDone p recv send out = packetAt (refusal (packetRow p recv send out)) p recv send out
 
 -- packet, as the code has its parameters
+abbrev pub arrival : List ℕ → List ℕ → List ℕ → List ℕ → ℕ → Packet
+arrival frame from to rules known = record { frame = frame; from = from; to = to; rules = rules; known = known }
+
 unfoldable pub packetOf : List ℕ → List ℕ → List ℕ → List ℕ → List ℕ → List ℕ → ℕ → List ℕ → PacketOutcome
-packetOf recv send frame from to rules known out =
-    packetDone (record { frame = frame; from = from; to = to; rules = rules; known = known }) recv send out
+packetOf recv send frame from to rules known out = packetDone (arrival frame from to rules known) recv send out
 
 -- ---- push and wakes
 
@@ -278,18 +287,21 @@ pushHead p = record {
 abbrev pub pushRoom : ℕ
 pushRoom = 310
 
--- push 25, 2, 21, 6, 24, 22, 7, 12
-unfoldable pub pushRow : Push → List ℕ → List ℕ → Refusals
-pushRow p send out =
-    (sound roleSend send, 25)
-    ∷ (leb pushRoom (length out), 2)
+-- push 2, 21, 6, 24, 22, 7, 12, on a store and with room for a run
+abbrev pub pushTests : Push → Store → ℕ → Refusals
+pushTests p s room =
+    (leb pushRoom room, 2)
     ∷ (leb (length (p .topic)) largestTopic, 21)
     ∷ (leb (length (p .bytes)) longest, 6)
     ∷ (ltb (p .created + p .try) (pow numberWidth), 24)
-    ∷ (not (isSome (found (p .id) (decode send .held))), 22)
-    ∷ (ltb 0 (length (decode send .free)), 7)
-    ∷ (leb (slotsOf (length (p .bytes))) (length (decode send .freeCells)), 12)
+    ∷ (not (isSome (found (p .id) (s .held))), 22)
+    ∷ (ltb 0 (length (s .free)), 7)
+    ∷ (leb (slotsOf (length (p .bytes))) (length (s .freeCells)), 12)
     ∷ []
+
+-- .. behind 25
+unfoldable pub pushRow : Push → List ℕ → List ℕ → Refusals
+pushRow p send out = (sound roleSend send, 25) ∷ pushTests p (decode send) (length out)
 
 -- the push call, with what is pushed as one value: its step, and the init that is sent
 abbrev pub pushDone : Push → List ℕ → List ℕ → SendOutcome
@@ -298,9 +310,12 @@ pushDone p send out =
     (initOut (pushHead p)) send out
 
 -- push, as the code has its parameters
+abbrev pub pushed : List ℕ → ℕ → List ℕ → List ℕ → List ℕ → List ℕ → ℕ → ℕ → Push
+pushed id reply from to topic bytes created try =
+    record { id = id; reply = reply; from = from; to = to; topic = topic; bytes = bytes; created = created; try = try }
+
 unfoldable pub pushOf : List ℕ → List ℕ → ℕ → List ℕ → List ℕ → List ℕ → List ℕ → ℕ → ℕ → List ℕ → SendOutcome
-pushOf send id reply from to topic bytes created try out =
-    pushDone (record { id = id; reply = reply; from = from; to = to; topic = topic; bytes = bytes; created = created; try = try }) send out
+pushOf send id reply from to topic bytes created try out = pushDone (pushed id reply from to topic bytes created try) send out
 
 -- "Send wake (kind 1)", "Deadline wake (kind 2)"
 abbrev pub sendWake : ℕ

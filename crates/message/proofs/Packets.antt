@@ -1,9 +1,9 @@
 -- The ways out of a packet. Assumes nothing.
 use Prim.Native.Nat.{ℕ, _≤_, _<_}
 use native.Mathlib.Omega.{arith}
-use mathlib.Core.Path.{_≡_, refl, sym, ap, _∙_}
-use mathlib.Core.Bool.{Bool, true, false}
-use mathlib.Core.List.{List, [], _∷_}
+use mathlib.Core.Path.{_≡_, sym, ap, _∙_}
+use mathlib.Core.Bool.{true, false}
+use mathlib.Core.List.{List, _∷_}
 use lib.ListN.{length}
 use lib.Dec.{eqb, leb}
 use borrow.Author.Tests.{eq-eqb, ne-eqb, le-leb, lt-leb}

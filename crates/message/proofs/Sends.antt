@@ -12,9 +12,8 @@ use Rattle.machine.specs.Sound.{sound}
 use Rattle.machine.specs.Receive.{found}
 use Rattle.machine.specs.Send.{pushStep, initOut}
 use Rattle.machine.specs.Refusals.{Refusals, refusal}
-use Rattle.machine.specs.Calls.{Push, heldRow, sendAt, pushRow, pushHead, pushDone, sendWake, deadlineWake, wakeRoom, wakeRow, wakeStep, wakeRun, wakeOf}
+use Rattle.machine.specs.Calls.{Push, heldRow, sendAt, pushTests, pushRow, pushHead, pushDone, sendWake, deadlineWake, wakeRoom, wakeRow, wakeStep, wakeRun, wakeOf}
 use Rattle.store.specs.Refuse.{next, stop}
-use Rattle.outbox.specs.Pushing.{soundRow}
 
 -- with a row whose first test is the store's
 module _ (b out : List ℕ) (row : Refusals) (s : Store) (run : List ℕ) where
@@ -31,12 +30,12 @@ module _ (p : Push) (b out : List ℕ) where
   pub push-unsound : (m k w : ℕ) → sound roleSend b ≡ false → m ≡ 25 → k ≡ 0 → w ≡ 0 → record { number = m; run = k; wake = w; send = b; out = out } ≡ pushDone p b out
   unfolding pushRow
   push-unsound m k w e x y z =
-      unsound b out (soundRow p (decode b) (length out)) (pushStep (pushHead p) (p .created) (p .created + p .try) (p .bytes) (decode b)) (initOut (pushHead p)) m k w e x y z
+      unsound b out (pushTests p (decode b) (length out)) (pushStep (pushHead p) (p .created) (p .created + p .try) (p .bytes) (decode b)) (initOut (pushHead p)) m k w e x y z
 
   pub push-sound : sound roleSend b ≡ true
-      → sendAt (refusal (soundRow p (decode b) (length out))) (pushStep (pushHead p) (p .created) (p .created + p .try) (p .bytes) (decode b)) (initOut (pushHead p)) b out ≡ pushDone p b out
+      → sendAt (refusal (pushTests p (decode b) (length out))) (pushStep (pushHead p) (p .created) (p .created + p .try) (p .bytes) (decode b)) (initOut (pushHead p)) b out ≡ pushDone p b out
   unfolding pushRow
-  push-sound e = is-sound b out (soundRow p (decode b) (length out)) (pushStep (pushHead p) (p .created) (p .created + p .try) (p .bytes) (decode b)) (initOut (pushHead p)) e
+  push-sound e = is-sound b out (pushTests p (decode b) (length out)) (pushStep (pushHead p) (p .created) (p .created + p .try) (p .bytes) (decode b)) (initOut (pushHead p)) e
 
 module _ (b : List ℕ) (kind : ℕ) (id : List ℕ) (clock : ℕ) (out : List ℕ) where
   abbrev row : Refusals

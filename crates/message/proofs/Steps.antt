@@ -19,12 +19,11 @@ use Rattle.machine.specs.Layout.{encode, decode}
 use Rattle.machine.specs.Receive.{found, initStep, chunkStep, doneStep, dropStep}
 use Rattle.machine.specs.Send.{change, withState, ackPiece}
 use Rattle.machine.specs.Refusals.{refusal}
-use Rattle.machine.specs.Calls.{Packet, kind, yes, heldRow, initRow, initHead, chunkRow, doneRow, stateRow, ackChunkRow, kindRow, recvStep, sendStep, replied, kindOut, frameBytes}
+use Rattle.machine.specs.Calls.{Packet, kind, yes, heldRow, initRow, initHead, chunkRow, doneRow, stateRow, ackChunkRow, kindRow, recvStep, sendStep, replied, kindOut, frameBytes, arrival}
 use Rattle.laws.specs.SoundValid.{sound-valid}
 use Rattle.store.specs.HeldAt.{Receives, Sends}
 use Rattle.store.specs.Refuse.{stepped}
 use Rattle.message.specs.Both.{Both, bothOf, both, replyBytes, replyOut}
-use Rattle.inbox.specs.Arrives.{arrival}
 
 -- a kind that is told
 pub told : (p : Packet) (b c : List ℕ) (k : Kind) (x : Both) → kind p ≡ k → x ≡ bothOf k p b c → x ≡ both p b c

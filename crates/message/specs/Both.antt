@@ -8,8 +8,7 @@ use Rattle.packet.specs.declared.header.Kind.the-variants.{Init, Chunk, Done, R
 use Rattle.packet.specs.Outgoing.{initReply, chunkReply, doneReply}
 use Rattle.machine.specs.Layout.{encode, decode}
 use Rattle.machine.specs.Refusals.{refusal}
-use Rattle.machine.specs.Calls.{Packet, kind, kindRow, recvStep, sendStep, kindOut}
-use Rattle.inbox.specs.Arrives.{arrival}
+use Rattle.machine.specs.Calls.{Packet, kind, kindRow, recvStep, sendStep, kindOut, arrival}
 
 -- a number, and both stores
 pub record Both : Type 0 where

@@ -9,8 +9,7 @@ ghost use Prim.Native.Nat.{_≤_};
 ghost use lib.ListN.{length};
 ghost use Rattle.octets.specs.Octets.{put};
 ghost use Rattle.packet.specs.Frame.{kindOf, flagsOf};
-ghost use Rattle.machine.specs.Calls.{frameBytes, packetRoom, isKind, kindWake};
-ghost use Rattle.inbox.specs.Arrives.{arrival};
+ghost use Rattle.machine.specs.Calls.{frameBytes, packetRoom, isKind, kindWake, arrival};
 ghost use Rattle.store.specs.HeldAt.{Receives, Sends};
 ghost use Rattle.message.specs.Both.{both, replyBytes, replyOut};
 

@@ -4,7 +4,7 @@ use mathlib.Core.Path.{_≡_, sym, ap, _∙_}
 use mathlib.Core.Bool.{Bool, true, false, _||_}
 use mathlib.Core.List.{List, []}
 use mathlib.Core.Option.{Option, some}
-use lib.ListN.{length, getD}
+use lib.ListN.{length}
 use lib.Dec.{eqb}
 use Rattle.octets.specs.Octets.{put, Bytes}
 use Rattle.octets.specs.Parts.{put-nil}
@@ -12,19 +12,18 @@ use Rattle.packet.specs.Outgoing.{entry, header, abortedPacket}
 use Rattle.packet.specs.Lengths.{length-entry, length-header}
 use Rattle.machine.specs.Codes.{roleSend, stateInit, stateInProgress}
 use Rattle.machine.specs.Values.{Head, Sending, Rec}
-use Rattle.machine.specs.Layout.{timedOutAt, idWidth, addressWidth, recOff, headOf, sendingOf, encode, decode}
+use Rattle.machine.specs.Layout.{idWidth, addressWidth, headOf, sendingOf, encode, decode}
 use Rattle.machine.specs.Sound.{HeadSized}
 use Rattle.machine.specs.Receive.{dropAt, dropStep}
 use Rattle.machine.specs.Send.{unsettled, timedOut, abortedOut, deadlineOut, change, deadlineAt}
-use Rattle.store.specs.HeldAt.{placeAt, rowIn, recIn, keyIn, HeldAt}
+use Rattle.store.specs.HeldAt.{rowIn, recIn, keyIn, HeldAt}
 use Rattle.store.specs.Met.{rec-head, rec-sending, held-here}
-use Rattle.outbox.specs.Here.{timed-out-is}
 use Rattle.outbox.specs.Late.{abortedOf}
 use Rattle.outbox.specs.Partly.{change-is}
 
--- the mark that is read in the row is the record's
-pub mark-read : (b : List ℕ) (at row : ℕ) → row ≡ recOff (placeAt b at) → eqb (getD b (row + timedOutAt) 0) 1 ≡ eqb (recIn b at .sending .timedOut) 1
-mark-read b at row e = ap (λ (o : ℕ). eqb (getD b (o + timedOutAt) 0) 1) e ∙ ap (λ (x : ℕ). eqb x 1) (sym (timed-out-is b at))
+-- the mark that is read is the record's
+pub mark-read : (b : List ℕ) (at mark : ℕ) → mark ≡ sendingOf (rowIn b at) .timedOut → eqb mark 1 ≡ eqb (recIn b at .sending .timedOut) 1
+mark-read b at mark e = ap (λ (x : ℕ). eqb x 1) (e ∙ ap (λ (x : Sending). x .timedOut) (sym (rec-sending b at)))
 
 module _ (b : List ℕ) (at : ℕ) where
   abbrev r : Rec

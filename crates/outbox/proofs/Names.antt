@@ -5,18 +5,14 @@ use mathlib.Core.Path.{_≡_, sym, ap, _∙_}
 use mathlib.Core.List.{List}
 use lib.ListN.{length, take, drop, replicate, length-replicate}
 use Rattle.octets.specs.Octets.{part, put}
-use Rattle.octets.specs.Parts.{part-of, part-all, part-put-same, length-part, length-put}
+use Rattle.octets.specs.Parts.{part-of, length-part, put-whole}
 use Rattle.machine.specs.Limits.{recBytes}
 use Rattle.machine.specs.Layout.{recOff}
 use Rattle.outbox.specs.Sending.{namesWidth, namesIn}
-
--- a buffer that is written whole
-filled : (z v : List ℕ) → length v ≡ length z → put z 0 v ≡ v
-filled z v e = sym (part-all (put z 0 v) (length v) (length-put z 0 v (omega arith) ∙ sym e)) ∙ part-put-same z 0 v (omega arith)
 
 pub names-are : (b out : List ℕ) (k row : ℕ) → row ≡ recOff k → recOff k + recBytes ≤ length b
     → out ≡ put (replicate namesWidth 0) 0 (take (row + 48 - (row + 8)) (drop (row + 8) b)) → out ≡ namesIn b k
 names-are b out k row q h e =
     let v : take (row + 48 - (row + 8)) (drop (row + 8) b) ≡ namesIn b k = part-of b (row + 8) (row + 48) namesWidth (omega arith) ∙ ap (λ (o : ℕ). part b (o + 8) namesWidth) q in
     e ∙ ap (put (replicate namesWidth 0) 0) v
-    ∙ filled (replicate namesWidth 0) (namesIn b k) (length-part b (recOff k + 8) namesWidth (omega arith) ∙ sym (length-replicate {A = ℕ} namesWidth 0))
+    ∙ put-whole (replicate namesWidth 0) (namesIn b k) (length-part b (recOff k + 8) namesWidth (omega arith) ∙ sym (length-replicate {A = ℕ} namesWidth 0))

@@ -15,7 +15,7 @@ use Rattle.machine.specs.Layout.{freeCellsAt, numberWidth, decode}
 use Rattle.machine.specs.Find.{isSome}
 use Rattle.machine.specs.Receive.{found}
 use Rattle.machine.specs.Refusals.{Refusals, refusal}
-use Rattle.machine.specs.Calls.{Push, pushRoom, yes, pushHead}
+use Rattle.machine.specs.Calls.{Push, pushRoom, yes, pushHead, pushTests}
 use Rattle.packet.specs.Outgoing.{entry, initPacket}
 use Rattle.packet.specs.Lengths.{length-entry, length-init}
 use Rattle.machine.specs.Send.{initOut}
@@ -24,13 +24,13 @@ use Rattle.steps.specs.Refusals.{refusal-clear}
 use Rattle.store.specs.HeldAt.{Sends}
 use Rattle.store.specs.Opening.{newHead}
 use Rattle.store.specs.Refuse.{next, stop, clear}
-use Rattle.outbox.specs.Pushing.{soundRow, Pushable, firstPlace}
+use Rattle.outbox.specs.Pushing.{Pushable, firstPlace}
 
 -- ---- the row, test by test
 
 module _ (p : Push) (s : Store) (room : ℕ) where
   abbrev row : ℕ
-  row = refusal (soundRow p s room)
+  row = refusal (pushTests p s room)
 
   -- what is left of the row behind each test
   abbrev cellRow : Refusals
@@ -104,21 +104,21 @@ module _ (p : Push) (s : Store) (room : ℕ) where
 
 -- ---- no refusal
 
-module _ (p : Push) (b : List ℕ) (room : ℕ) (z : refusal (soundRow p (decode b) room) ≡ 0) where
+module _ (p : Push) (b : List ℕ) (room : ℕ) (z : refusal (pushTests p (decode b) room) ≡ 0) where
   -- its end is a number of 64 bits, and there is room for its init
   pub push-end : p .created + p .try ≤ 18446744073709551615
   unfolding pow
-  push-end = omega (arith, ltb-true (p .created + p .try) (pow numberWidth) (refusal-clear (soundRow p (decode b) room) refl z .1 .1 .1 .0))
+  push-end = omega (arith, ltb-true (p .created + p .try) (pow numberWidth) (refusal-clear (pushTests p (decode b) room) refl z .1 .1 .1 .0))
 
   pub push-room : (pushRoom ≤ room) × (length (p .topic) ≤ largestTopic)
   push-room =
-      let c = refusal-clear (soundRow p (decode b) room) refl z in
+      let c = refusal-clear (pushTests p (decode b) room) refl z in
       (leb-true pushRoom room (c .0), leb-true (length (p .topic)) largestTopic (c .1 .0))
 
   pub pushable : Sends b → length (p .id) ≡ 8 → length (p .from) ≡ 16 → length (p .to) ≡ 16 → (reply : Bool)
       → Pushable b (newHead (p .id) (p .from) (p .to) reply (length (p .bytes)) (p .topic)) (p .bytes)
   pushable t i f o reply =
-      let c = refusal-clear (soundRow p (decode b) room) refl z in
+      let c = refusal-clear (pushTests p (decode b) room) refl z in
       record {
         sound = t;
         fits = record {

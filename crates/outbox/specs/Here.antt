@@ -1,15 +1,14 @@
 -- The record that a link leads to, in the bytes of a sound send store: its row is inside, and its fields are read from it. Assumes nothing.
 use Prim.Native.Nat.{ℕ, suc, _+_, _≤_, _<_}
 use native.Mathlib.Omega.{arith}
-use mathlib.Core.Path.{_≡_, sym, ap, subst}
+use mathlib.Core.Path.{_≡_, sym, subst}
 use mathlib.Core.List.{List, map}
 use lib.ListN.{length, getD}
 use Rattle.octets.specs.Octets.{Bytes}
-use Rattle.octets.specs.Parts.{getD-part}
 use Rattle.machine.specs.Limits.{longest, recCount, recBytes}
 use Rattle.machine.specs.Codes.{roleSend, kindLeaving}
 use Rattle.machine.specs.Chains.{first}
-use Rattle.machine.specs.Layout.{countAt, heldAt, stateAt, timedOutAt, firstCellAt, slotsAt, recOff, recOf, cellPlace, readCells, decode}
+use Rattle.machine.specs.Layout.{countAt, heldAt, firstCellAt, recOff, recOf, cellPlace, decode}
 use Rattle.machine.specs.Sound.{sizes, HeadSized}
 use Rattle.laws.specs.Fine.{fine-complete}
 use Rattle.links.specs.Links.{Links, RecLink}
@@ -54,24 +53,6 @@ here b y at h =
       counted = complete .0;
       whole = omega (arith, complete .1, f .total);
     }
-
--- the record's pieces and slots, from its row
-pub cells-are : (b : List ℕ) (at : ℕ) → recIn b at .cells ≡ readCells b (getD b (recOff (placeAt b at) + firstCellAt) 0)
-unfolding recOf
-cells-are b at = ap (readCells b) (getD-part b (recOff (placeAt b at)) recBytes firstCellAt (omega arith))
-
-pub slots-are : (b : List ℕ) (at : ℕ) → recIn b at .slots ≡ getD b (recOff (placeAt b at) + slotsAt) 0
-unfolding recOf
-slots-are b at = getD-part b (recOff (placeAt b at)) recBytes slotsAt (omega arith)
-
--- its state and its timed-out mark
-pub state-is : (b : List ℕ) (at : ℕ) → recIn b at .sending .state ≡ getD b (recOff (placeAt b at) + stateAt) 0
-unfolding recOf
-state-is b at = getD-part b (recOff (placeAt b at)) recBytes stateAt (omega arith)
-
-pub timed-out-is : (b : List ℕ) (at : ℕ) → recIn b at .sending .timedOut ≡ getD b (recOff (placeAt b at) + timedOutAt) 0
-unfolding recOf
-timed-out-is b at = getD-part b (recOff (placeAt b at)) recBytes timedOutAt (omega arith)
 
 -- the record's link to its first piece
 pub first-is : (b : List ℕ) → Bytes b → (at : ℕ) → HeldAt roleSend b at → getD b (recOff (placeAt b at) + firstCellAt) 0 ≡ first (map cellPlace (recIn b at .cells))

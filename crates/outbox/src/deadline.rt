@@ -1,10 +1,8 @@
 // The deadline wake of one record: document 01, "Steps", "Deadline wake (kind 2)". The host fires it; the try duration only enters the report.
-use crate::record::row_at;
 use packet::header;
 use packet::run;
 use rows::record::IN_PROGRESS;
 use rows::record::INIT;
-use rows::record::Record;
 use store::field;
 ghost use mathlib.Core.Path.{_≡_};
 ghost use mathlib.Core.Option.{some};
@@ -24,8 +22,7 @@ fn is_late(send: &[u8], at: usize) -> bool
     requires { ⌜ Here (now send) at ⌝ }
     ensures { λ r. ⌜ r ≡ eqb (recIn (now (send .entry)) at .sending .timedOut) 1 ⌝ }
 {
-    let row = row_at(send, at);
-    send[row + Record::TIMED_OUT] == 1
+    field::timed_out(send, at) == 1
 }
 
 // The aborted packet of a record that is not settled, as the run's one entry; answers where the run ends.

@@ -1,9 +1,9 @@
 // The pieces of a record that are due, sent in index order.
 use crate::piece::send_piece;
-use crate::record::first_cell;
-use cells::layout::MOST_STEPS;
-use cells::layout::cell_at;
+use cells::pieces::first_cell;
 use octets::small;
+use rows::cell::STEPS;
+use rows::cell::cell_at;
 ghost use mathlib.Core.Path.{_≡_};
 ghost use Prim.Native.Nat.{_≤_};
 ghost use lib.ListN.{length};
@@ -20,7 +20,7 @@ pub fn send_due(store: &mut [u8], link: usize, names: &[u8], clock: u64, out: &m
     let mut x = first_cell(store, link);
     let mut at: usize = 0;
     let mut n: usize = 0;
-    while n < MOST_STEPS {
+    while n < STEPS {
         if x == 0 {
             return at;
         }

@@ -2,20 +2,16 @@
 use crate::record::DESTINATION;
 use crate::record::NAMES;
 use crate::record::SOURCE;
-use cells::layout::BYTES_AT;
-use cells::layout::INDEX_AT;
-use cells::layout::SIZE_AT;
-use cells::layout::STAMP_AT;
-use cells::layout::STATE_AT;
-use cells::layout::cell_at;
 use cells::row::mark;
 use octets::get16;
 use octets::get64;
 use octets::wide;
 use packet::chunk::MessageChunk;
 use packet::run;
+use rows::cell::Cell;
 use rows::cell::SENT;
 use rows::cell::STARTED;
+use rows::cell::cell_at;
 use rows::message::CUT;
 ghost use mathlib.Core.Path.{_≡_};
 ghost use Prim.Native.Nat.{_+_};
@@ -46,8 +42,8 @@ pub fn is_due(store: &[u8], cell: usize, clock: u64) -> bool
     ensures { λ r. ⌜ r ≡ due clock (readCell (now (store .entry)) cell) ⌝ }
 {
     let at = cell_at(cell);
-    let state = store[at + STATE_AT];
-    let again = passed(get64(store, at + STAMP_AT), clock);
+    let state = store[at + Cell::STATE];
+    let again = passed(get64(store, at + Cell::STAMP), clock);
     (state == STARTED) | ((state == SENT) & again)
 }
 
@@ -57,9 +53,9 @@ fn put_piece(store: &[u8], cell: usize, names: &[u8], out: &mut [u8], at: usize)
     ensures { λ r. ⌜ (r ≡ at + length (chunkOf (now (names .entry)) (readCell (now (store .entry)) cell))) × (now (out .exit) ≡ put (now (out .entry)) at (chunkOf (now (names .entry)) (readCell (now (store .entry)) cell))) ⌝ }
 {
     let from = cell_at(cell);
-    let index = wide(store[from + INDEX_AT]);
-    let size = get16(store, from + SIZE_AT) as usize;
-    let start = from + BYTES_AT;
+    let index = wide(store[from + Cell::INDEX]);
+    let size = get16(store, from + Cell::SIZE) as usize;
+    let start = from + Cell::PIECE;
     let end = start + size;
     run::put_chunk(
         out,

@@ -1,6 +1,6 @@
 // Push: a message starts to leave. Its data is cut by 1,300 into free cells, its record is opened, and its init is sent.
 use answer::Answer;
-use cells::layout::LONGEST;
+use cells::pieces::LONGEST;
 use packet::init::MessageInit;
 use packet::run;
 use rows::head::Head;
@@ -15,10 +15,10 @@ ghost use Rattle.machine.specs.Limits.{longest, slotsOf};
 ghost use Rattle.machine.specs.Layout.{encode, decode};
 ghost use Rattle.machine.specs.Refusals.{refusal};
 ghost use Rattle.machine.specs.Send.{pushStep, initOut};
-ghost use Rattle.machine.specs.Calls.{pushHead, sendAt};
+ghost use Rattle.machine.specs.Calls.{pushHead, sendAt, pushed, pushTests};
 ghost use Rattle.store.specs.HeldAt.{Sends};
 ghost use Rattle.store.specs.Opening.{newHead};
-ghost use Rattle.outbox.specs.Pushing.{pushed, soundRow, Pushable, firstPlace};
+ghost use Rattle.outbox.specs.Pushing.{Pushable, firstPlace};
 
 // The most bytes of a topic.
 const LARGEST_TOPIC: usize = 255;
@@ -48,7 +48,7 @@ fn refusal(
     room: usize,
 ) -> u64
     requires { ⌜ Sends (now send) ⌝ }
-    ensures { λ r. ⌜ r ≡ refusal (soundRow (pushed (now (id .entry)) 0 [] [] (now (topic .entry)) (now (bytes .entry)) created «try_ms») (decode (now (send .entry))) room) ⌝ }
+    ensures { λ r. ⌜ r ≡ refusal (pushTests (pushed (now (id .entry)) 0 [] [] (now (topic .entry)) (now (bytes .entry)) created «try_ms») (decode (now (send .entry))) room) ⌝ }
 {
     if room < ROOM {
         return answer::SHORT_OUTPUT;
@@ -130,7 +130,7 @@ pub fn push(
     run: &mut [u8],
 ) -> Answer
     requires { ⌜ Sends (now send) × (length (now id) ≡ 8) × (length (now from) ≡ 16) × (length (now to) ≡ 16) ⌝ }
-    ensures { λ r. ⌜ record { number = r .number; run = r .run; wake = r .wake; send = now (send .exit); out = now (run .exit) } ≡ sendAt (refusal (soundRow (pushed (now (id .entry)) reply (now (from .entry)) (now (to .entry)) (now (topic .entry)) (now (bytes .entry)) created «try_ms») (decode (now (send .entry))) (length (now (run .entry))))) (pushStep (pushHead (pushed (now (id .entry)) reply (now (from .entry)) (now (to .entry)) (now (topic .entry)) (now (bytes .entry)) created «try_ms»)) created (created + «try_ms») (now (bytes .entry)) (decode (now (send .entry)))) (initOut (pushHead (pushed (now (id .entry)) reply (now (from .entry)) (now (to .entry)) (now (topic .entry)) (now (bytes .entry)) created «try_ms»))) (now (send .entry)) (now (run .entry)) ⌝ }
+    ensures { λ r. ⌜ record { number = r .number; run = r .run; wake = r .wake; send = now (send .exit); out = now (run .exit) } ≡ sendAt (refusal (pushTests (pushed (now (id .entry)) reply (now (from .entry)) (now (to .entry)) (now (topic .entry)) (now (bytes .entry)) created «try_ms») (decode (now (send .entry))) (length (now (run .entry))))) (pushStep (pushHead (pushed (now (id .entry)) reply (now (from .entry)) (now (to .entry)) (now (topic .entry)) (now (bytes .entry)) created «try_ms»)) created (created + «try_ms») (now (bytes .entry)) (decode (now (send .entry)))) (initOut (pushHead (pushed (now (id .entry)) reply (now (from .entry)) (now (to .entry)) (now (topic .entry)) (now (bytes .entry)) created «try_ms»))) (now (send .entry)) (now (run .entry)) ⌝ }
 {
     let number = refusal(send, id, topic, bytes, created, try_ms, run.len());
     if number != answer::DONE {

@@ -5,11 +5,10 @@ use crate::done::send_done;
 use crate::due::send_due;
 use crate::init::put_init;
 use crate::record::names_at;
-use crate::record::row_at;
 use answer::Answer;
 use rows::record::IN_PROGRESS;
 use rows::record::INIT;
-use rows::record::Record;
+use store::field;
 ghost use mathlib.Core.Path.{_≡_};
 ghost use mathlib.Core.Bool.{_||_};
 ghost use mathlib.Core.List.{_∷_};
@@ -55,11 +54,10 @@ pub fn send_wake(send: &mut [u8], at: usize, clock: u64, run: &mut [u8]) -> usiz
     requires { ⌜ HeldAt roleSend (now send) at × (sendRoom ≤ length (now run)) ⌝ }
     ensures { λ r. ⌜ (r ≡ length (wakeOut clock (recIn (now (send .entry)) at))) × (now (send .exit) ≡ encode (change (woken clock) (keyIn (now (send .entry)) at) (decode (now (send .entry))))) × (now (run .exit) ≡ put (now (run .entry)) 0 (wakeOut clock (recIn (now (send .entry)) at))) ⌝ }
 {
-    let row = row_at(send, at);
-    if send[row + Record::TIMED_OUT] == 1 {
+    if field::timed_out(send, at) == 1 {
         return 0;
     }
-    let state = send[row + Record::STATE];
+    let state = field::state(send, at);
     if state == INIT {
         return put_init(send, at, run);
     }

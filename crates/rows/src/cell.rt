@@ -1,10 +1,10 @@
 // A cell of a store, which holds one piece.
 
 ghost use mathlib.Core.Path.{_≡_};
-ghost use Prim.Native.Nat.{_<_};
+ghost use Prim.Native.Nat.{_<_, _≤_};
 ghost use lib.ListN.{length};
-ghost use Rattle.machine.specs.Limits.{cellBytes};
-ghost use Rattle.machine.specs.Layout.{sizeWidth, sizeAt, numAt, cellOf};
+ghost use Rattle.machine.specs.Limits.{cellBytes, mostCells};
+ghost use Rattle.machine.specs.Layout.{cellOff, sizeWidth, sizeAt, numAt, cellOf};
 ghost use Rattle.machine.specs.Sound.{cellFits};
 ghost use Rattle.rows.specs.Asked.{pieceFits};
 
@@ -34,6 +34,17 @@ pub const BYTES: usize = 1380;
 pub const MOST: usize = 45;
 
 pub const LARGEST: usize = 1364;
+
+// One step more than there are cells: a walk along a chain of sound bytes has ended before.
+pub const STEPS: usize = MOST + 1;
+
+// Where the cell at a place starts.
+pub fn cell_at(place: usize) -> usize
+    requires { ⌜ (1 ≤ place) × (place ≤ mostCells) ⌝ }
+    ensures { λ r. ⌜ r ≡ cellOff place ⌝ }
+{
+    FIRST + BYTES * (place - 1)
+}
 
 // The states of a piece.
 pub const STARTED: u8 = 0;

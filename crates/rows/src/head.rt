@@ -32,6 +32,9 @@ pub const RECEIVE: u64 = 1;
 
 pub const SEND: u64 = 2;
 
+// The one form that a store has.
+pub const FORM: u8 = 1;
+
 // Whether a role is one of the two.
 pub fn is_role(role: u64) -> bool
     ensures { λ r. ⌜ r ≡ isRole role ⌝ }
@@ -57,6 +60,6 @@ pub fn fits(s: &[u8], role: u64) -> bool
     (s.len() == crate::cell::FIRST + crate::cell::BYTES * cells)
         & is_role(role)
         & (octets::wide(s[Head::ROLE]) == role)
-        & (s[Head::FORM] == 1)
+        & (s[Head::FORM] == FORM)
         & rest
 }

@@ -1,9 +1,10 @@
 // A record of a store.
 
 ghost use mathlib.Core.Path.{_≡_};
+ghost use Prim.Native.Nat.{_≤_};
 ghost use lib.ListN.{length};
-ghost use Rattle.machine.specs.Limits.{recBytes};
-ghost use Rattle.machine.specs.Layout.{sendingOf};
+ghost use Rattle.machine.specs.Limits.{recCount, recBytes};
+ghost use Rattle.machine.specs.Layout.{recOff, sendingOf};
 ghost use Rattle.machine.specs.Sound.{sendingFits};
 ghost use Rattle.rows.specs.Asked.{recordFits};
 
@@ -41,12 +42,28 @@ impl Record {
     pub const TOPIC: usize = 72;
 }
 
+// The bytes of an id and of an address.
+pub const ID_SIZE: usize = Record::SOURCE - Record::ID;
+
+pub const ADDRESS_SIZE: usize = Record::DESTINATION - Record::SOURCE;
+
 // Where the first record stands, the bytes of one, and how many there are.
 pub const FIRST: usize = crate::head::Head::BYTES;
 
 pub const BYTES: usize = 328;
 
 pub const COUNT: usize = 8;
+
+// One step more than there are records: a walk along a chain of sound bytes has ended before.
+pub const STEPS: usize = COUNT + 1;
+
+// Where the record at a place starts.
+pub fn record_at(place: usize) -> usize
+    requires { ⌜ (1 ≤ place) × (place ≤ recCount) ⌝ }
+    ensures { λ r. ⌜ r ≡ recOff place ⌝ }
+{
+    FIRST + BYTES * (place - 1)
+}
 
 // The kinds of a record that is not free.
 pub const ARRIVING: u64 = 1;

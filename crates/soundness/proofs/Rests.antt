@@ -18,6 +18,7 @@ use Rattle.machine.specs.Counting.{inside}
 use Rattle.machine.specs.Chains.{link, walk}
 use Rattle.machine.specs.Layout.{idAt, idWidth, nextAt, indexAt, sizeAt, bytesAt, sizeWidth, recOff, cellOff, firstCellAt, slotsAt, totalAt, numberWidth, recAt, cellAt, numAt, cellOf, readCell, readCells, cellChain}
 use Rattle.machine.specs.Sound.{rising, sizes, isCut}
+use Rattle.octets.specs.Octets.{part}
 use Rattle.laws.specs.Tests.{all-parts}
 use Rattle.laws.specs.Counting.{inside-is}
 use Rattle.laws.specs.Marks.{Walked, scan, pick, scan-append}
@@ -29,8 +30,14 @@ use Rattle.soundness.proofs.Walking.{piece-chain, walk-end, walk-out, w
 
 -- ---- records, as the code reads them
 
-pub key-is : (b : List ℕ) (x : ℕ) → take (recOff x + idAt + idWidth - (recOff x + idAt)) (drop (recOff x + idAt) b) ≡ keyAt b x
-key-is b x = part-of b (recOff x + idAt) (recOff x + idAt + idWidth) idWidth (omega arith) ∙ sym (part-part b (recOff x) recBytes idAt idWidth (omega arith))
+pub key-is : (b : List ℕ) (x o : ℕ) → o ≡ recOff x → take (o + idAt + idWidth - (o + idAt)) (drop (o + idAt) b) ≡ keyAt b x
+key-is b x o e =
+    part-of b (o + idAt) (o + idAt + idWidth) idWidth (omega arith) ∙ ap (λ (n : ℕ). part b (n + idAt) idWidth) e
+    ∙ sym (part-part b (recOff x) recBytes idAt idWidth (omega arith))
+
+-- the row that starts there
+pub row-is : (b : List ℕ) (x o : ℕ) → o ≡ recOff x → take (o + recBytes - o) (drop o b) ≡ recAt b x
+row-is b x o e = part-of b o (o + recBytes) recBytes (omega arith) ∙ ap (λ (n : ℕ). part b n recBytes) e
 
 -- the pieces of the record at x, as the code asks for them
 module _ (b : List ℕ) (x first : ℕ) (row : List ℕ) (e : row ≡ recAt b x) (f : first ≡ getD row firstCellAt 0) where

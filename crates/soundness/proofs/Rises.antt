@@ -7,12 +7,12 @@ use native.Mathlib.Nat.{le-antisymm, add-zero, mul-le-mul-left}
 use mathlib.Core.Path.{_≡_, refl, sym, ap, _∙_}
 use mathlib.Core.Bool.{Bool, true, false, _&&_, and-false}
 use mathlib.Core.List.{List, [], _∷_, _++_, append-assoc, append-nil}
-use lib.ListN.{length, drop-of-length-le}
+use lib.ListN.{length}
 use lib.Dec.{eqb, ltb}
 use borrow.Author.Tests.{eq-eqb, ne-eqb, eqb-true, lt-ltb}
 use Rattle.octets.specs.Octets.{put}
 use Rattle.octets.specs.Bools.{cases, split}
-use Rattle.octets.specs.Parts.{more, put-nil}
+use Rattle.octets.specs.Parts.{more, put-nil, put-whole}
 use Rattle.octets.specs.Written.{wrote, then}
 use Rattle.machine.specs.Limits.{headBytes, recCount, recBytes, cellBytes, mostCells, storeBytes}
 use Rattle.machine.specs.Codes.{roleReceive, roleSend, isRole}
@@ -124,13 +124,6 @@ fresh-is role cells h =
     let recs = table-same (λ k. freeRow recBytes (freeLink recCount k) k) (rowAt (recRows (fresh role cells))) 1 recCount (λ k a z. sym (rise-at recBytes recCount 1 recCount k refl a z)) in
     let rest = table-same (λ k. freeRow cellBytes (freeLink cells k) k) (rowAt (cellRows (fresh role cells))) 1 cells (λ k a z. sym (rise-at cellBytes cells 1 cells k (omega arith) a z)) in
     λ i. (sym (rise-first recCount (omega arith)) i ∷ 0 ∷ 0 ∷ sym (rise-first cells h) i ∷ 1 ∷ cells ∷ role ∷ 0 ∷ 0 ∷ 0 ∷ 0 ∷ 0 ∷ 0 ∷ 0 ∷ 0 ∷ 0 ∷ []) ++ (recs i ++ rest i)
-
--- what is written over all bytes is all there is
-put-whole : (b v : List ℕ) → length v ≡ length b → put b 0 v ≡ v
-unfolding put
-put-whole b v e =
-    ap (λ (l : List ℕ). v ++ l) (drop-of-length-le b {i = 0 + length v} (omega (arith, e)))
-    ∙ append-nil v
 
 -- three writes over all bytes
 pub fresh-written : (role cells : ℕ) (b m l o : List ℕ) → 1 ≤ cells → length b ≡ storeBytes cells

@@ -6,11 +6,6 @@ ghost use Rattle.machine.specs.Limits.{mostCells};
 ghost use Rattle.laws.specs.Marks.{allMarked};
 ghost use Rattle.soundness.specs.Walked.{recordTable, cellTable, Fitting, chainMarked};
 
-// A walk takes at most one step more than there are places.
-pub const RECORD_STEPS: usize = rows::record::COUNT + 1;
-
-pub const CELL_STEPS: usize = rows::cell::MOST + 1;
-
 // Rows of one size, one behind the other from a start on; a walk along their links takes at most `steps` steps.
 pub struct Table {
     pub start: usize,
@@ -27,7 +22,7 @@ pub fn records() -> Table
         start: rows::record::FIRST,
         size: rows::record::BYTES,
         count: rows::record::COUNT,
-        steps: RECORD_STEPS,
+        steps: rows::record::STEPS,
     }
 }
 
@@ -39,7 +34,7 @@ pub fn cells(count: usize) -> Table
         start: rows::cell::FIRST,
         size: rows::cell::BYTES,
         count,
-        steps: CELL_STEPS,
+        steps: rows::cell::STEPS,
     }
 }
 

@@ -71,12 +71,13 @@ fn put_fresh(store: &mut [u8], role: u64, cells: usize)
     requires { ⌜ (isRole role ≡ true) × (1 ≤ cells) × (cells ≤ mostCells) × (length (now store) ≡ storeBytes cells) ⌝ }
     ensures { λ _. ⌜ now (store .exit) ≡ encode (fresh role cells) ⌝ }
 {
+    // first free record, held record, whole record and free cell; form, cells, role; zeros
     let head = [
         1,
         0,
         0,
         1,
-        1,
+        rows::head::FORM,
         cells as u8,
         role as u8,
         0,

@@ -16,7 +16,7 @@ pub fn marked(s: &[u8], cells: usize, role: u64, first: usize, marks: &mut [u8; 
 {
     let mut x: usize = first;
     let mut n: usize = 0;
-    while n < crate::chain::RECORD_STEPS {
+    while n < rows::record::STEPS {
         if x == 0 {
             return true;
         }
@@ -39,7 +39,7 @@ pub fn marked(s: &[u8], cells: usize, role: u64, first: usize, marks: &mut [u8; 
 }
 
 // The steps of a walk along the pieces of a record.
-const STEPS: u64 = crate::chain::CELL_STEPS as u64;
+const STEPS: u64 = rows::cell::STEPS as u64;
 
 // What is left of a message once a piece is cut off.
 fn cut_off(left: u64) -> u64

@@ -1,5 +1,9 @@
 // The records of a chain: each with its pieces, and with an id of its own.
-
+use rows::record::BYTES;
+use rows::record::ID_SIZE;
+use rows::record::Record;
+use rows::record::STEPS;
+use rows::record::record_at;
 ghost use mathlib.Core.Path.{_≡_};
 ghost use mathlib.Core.Bool.{true};
 ghost use Prim.Native.Nat.{suc, _-_, _≤_, _<_};
@@ -17,7 +21,7 @@ pub fn byte(s: &[u8], cells: usize, x: usize, field: usize) -> usize
     requires { ⌜ Room cells (now s) × At x × (field < recBytes) ⌝ }
     ensures { λ r. ⌜ r ≡ getD (recAt (now (s .entry)) x) field 0 ⌝ }
 {
-    octets::small(s[rows::record::FIRST + rows::record::BYTES * (x - 1) + field])
+    octets::small(s[record_at(x) + field])
 }
 
 // Whether the records x and y have one key.
@@ -25,9 +29,9 @@ fn same_key(s: &[u8], cells: usize, x: usize, y: usize) -> bool
     requires { ⌜ Room cells (now s) × At x × At y ⌝ }
     ensures { λ r. ⌜ r ≡ sameKey (keyAt (now (s .entry)) x) (keyAt (now (s .entry)) y) ⌝ }
 {
-    let a = rows::record::FIRST + rows::record::BYTES * (x - 1) + rows::record::Record::ID;
-    let e = rows::record::FIRST + rows::record::BYTES * (y - 1) + rows::record::Record::ID;
-    octets::equal(&s[a..a + 8], &s[e..e + 8])
+    let a = record_at(x) + Record::ID;
+    let e = record_at(y) + Record::ID;
+    octets::equal(&s[a..a + ID_SIZE], &s[e..e + ID_SIZE])
 }
 
 // Whether no record from `first` on, where n steps of the walk are made, has the key of the record x.
@@ -37,7 +41,7 @@ fn no_other(s: &[u8], cells: usize, x: usize, first: usize, made: usize) -> bool
 {
     let mut y: usize = first;
     let mut n: usize = made;
-    while n < crate::chain::RECORD_STEPS {
+    while n < STEPS {
         if y == 0 {
             return true;
         }
@@ -45,7 +49,7 @@ fn no_other(s: &[u8], cells: usize, x: usize, first: usize, made: usize) -> bool
         if one {
             return false;
         }
-        y = byte(s, cells, y, rows::record::Record::NEXT);
+        y = byte(s, cells, y, Record::NEXT);
         n += 1;
     }
     true
@@ -56,11 +60,11 @@ fn has_pieces(s: &[u8], cells: usize, x: usize, kind: u64) -> bool
     requires { ⌜ Room cells (now s) × At x × (all (readable cells (now s)) (piecesAt (now s) x) ≡ true) ⌝ }
     ensures { λ r. ⌜ r ≡ recordPieces kind (now (s .entry)) x ⌝ }
 {
-    let off = rows::record::FIRST + rows::record::BYTES * (x - 1);
-    let row = &s[off..off + rows::record::BYTES];
-    let first = octets::small(row[rows::record::Record::FIRST_CELL]);
-    let slots = octets::wide(row[rows::record::Record::SLOTS]);
-    let length = octets::get64(row, rows::record::Record::LENGTH);
+    let off = record_at(x);
+    let row = &s[off..off + BYTES];
+    let first = octets::small(row[Record::FIRST_CELL]);
+    let slots = octets::wide(row[Record::SLOTS]);
+    let length = octets::get64(row, Record::LENGTH);
     crate::pieces::fit(s, cells, first, kind, slots, length)
 }
 
@@ -71,12 +75,12 @@ pub fn fit(s: &[u8], cells: usize, kind: u64, first: usize, other: usize) -> boo
 {
     let mut x: usize = first;
     let mut n: usize = 0;
-    while n < crate::chain::RECORD_STEPS {
+    while n < STEPS {
         if x == 0 {
             return true;
         }
         let pieces = has_pieces(s, cells, x, kind);
-        let next = byte(s, cells, x, rows::record::Record::NEXT);
+        let next = byte(s, cells, x, Record::NEXT);
         let later = no_other(s, cells, x, next, n + 1);
         let others = no_other(s, cells, x, other, 0);
         let fine = pieces & (later & others);

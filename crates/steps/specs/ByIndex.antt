@@ -62,10 +62,6 @@ unfolding joined sizes
 length-joined [] = refl
 length-joined (c ∷ l) = rw (length-append, length-joined l)
 
--- their sizes are the length of what is joined
-pub sizes-by-index : (n : ℕ) (l : List Cell) → rising 0 n l ≡ true → length (joinFrom 0 n (λ j. pieceBytes j l)) ≡ sizes l
-sizes-by-index n l h = ap length (joined-by-index n l h) ∙ length-joined l
-
 -- ---- a piece at every index
 
 rising-length : (low high : ℕ) (l : List Cell) → low ≤ high → rising low high l ≡ true → low + length l ≤ high

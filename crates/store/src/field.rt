@@ -2,6 +2,8 @@
 
 use crate::place;
 use rows::record;
+use rows::record::ADDRESS_SIZE;
+use rows::record::ID_SIZE;
 use rows::record::Record;
 ghost use mathlib.Core.Path.{_≡_};
 ghost use Prim.Native.Nat.{_+_, _<_, _≤_};
@@ -97,7 +99,7 @@ pub fn id(store: &[u8], at: usize) -> &[u8]
     requires { ⌜ Reached (now store) at ⌝ }
     ensures { λ r. ⌜ now r ≡ headOf (rowIn (now (store .entry)) at) .id ⌝ }
 {
-    bytes(store, at, Record::ID, place::ID_SIZE)
+    bytes(store, at, Record::ID, ID_SIZE)
 }
 
 // The source's address, as that part of the store.
@@ -105,7 +107,7 @@ pub fn source(store: &[u8], at: usize) -> &[u8]
     requires { ⌜ Reached (now store) at ⌝ }
     ensures { λ r. ⌜ now r ≡ headOf (rowIn (now (store .entry)) at) .source ⌝ }
 {
-    bytes(store, at, Record::SOURCE, place::ADDRESS_SIZE)
+    bytes(store, at, Record::SOURCE, ADDRESS_SIZE)
 }
 
 // The destination's address, as that part of the store.
@@ -113,7 +115,7 @@ pub fn destination(store: &[u8], at: usize) -> &[u8]
     requires { ⌜ Reached (now store) at ⌝ }
     ensures { λ r. ⌜ now r ≡ headOf (rowIn (now (store .entry)) at) .destination ⌝ }
 {
-    bytes(store, at, Record::DESTINATION, place::ADDRESS_SIZE)
+    bytes(store, at, Record::DESTINATION, ADDRESS_SIZE)
 }
 
 // The topic, as that part of the store.

@@ -3,6 +3,7 @@
 use crate::place;
 use rows::head::Head;
 use rows::record;
+use rows::record::ID_SIZE;
 use rows::record::Record;
 ghost use mathlib.Core.Path.{_≡_};
 ghost use Rattle.links.specs.Links.{Links, RecLink};
@@ -29,7 +30,7 @@ pub fn find(store: &[u8], at: usize, id: &[u8]) -> usize
         }
         let row = place::rec_off(next);
         let a = row + Record::ID;
-        let e = a + place::ID_SIZE;
+        let e = a + ID_SIZE;
         if octets::equal(id, &store[a..e]) {
             return link;
         }

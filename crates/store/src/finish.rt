@@ -3,6 +3,7 @@
 use crate::find;
 use crate::place;
 use rows::head::Head;
+use rows::record::ID_SIZE;
 use rows::record::Record;
 ghost use mathlib.Core.Path.{_≡_};
 ghost use mathlib.Core.Bool.{true};
@@ -23,7 +24,7 @@ fn whole_end(store: &[u8], at: usize) -> usize
     ensures { λ r. ⌜ r ≡ seek (keyIn (now (store .entry)) at) (now (store .entry)) wholeAt ⌝ }
 {
     let a = place::row_at(store, at) + Record::ID;
-    let e = a + place::ID_SIZE;
+    let e = a + ID_SIZE;
     find::find(store, Head::WHOLE, &store[a..e])
 }
 

@@ -16,9 +16,6 @@ ghost use Rattle.machine.specs.Layout.{totalAt, encode, decode};
 ghost use Rattle.machine.specs.Receive.{initAt};
 ghost use Rattle.store.specs.Opening.{Openable, opened, newHead, FieldsFit, frontOf, restOf, newRow, Opens, Ready};
 
-// A message is cut by 1,300 bytes.
-const CUT_BY: u64 = rows::message::CUT;
-
 // The first free record, in which all but its link is written, becomes the first held.
 pub fn hold(store: &mut [u8])
     requires { ⌜ Openable (now store) ⌝ }
@@ -44,7 +41,7 @@ fn slots(total: u64) -> u8
     requires { ⌜ total ≤ longest ⌝ }
     ensures { λ r. ⌜ r ≡ slotsOf total ⌝ }
 {
-    ((total + (CUT_BY - 1)) / CUT_BY) as u8
+    rows::message::slots(total) as u8
 }
 
 // The start of a new record, from its kind to its destination; cell is the place of its first cell.

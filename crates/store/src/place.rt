@@ -7,23 +7,19 @@ ghost use Rattle.machine.specs.Limits.{recCount, recBytes, mostCells};
 ghost use Rattle.machine.specs.Layout.{recOff, cellOff};
 ghost use Rattle.store.specs.HeldAt.{placeAt, Reached};
 
-// The kinds of a record that is not free, and the bytes of an id and of an address.
+// The kinds of a record that is not free.
 pub const ARRIVING: u8 = rows::record::ARRIVING as u8;
 
 pub const WHOLE: u8 = rows::record::WHOLE as u8;
 
 pub const LEAVING: u8 = rows::record::LEAVING as u8;
 
-pub const ID_SIZE: usize = rows::record::Record::SOURCE - rows::record::Record::ID;
-
-pub const ADDRESS_SIZE: usize = rows::record::Record::DESTINATION - rows::record::Record::SOURCE;
-
 // Where the record at a place starts.
 pub fn rec_off(place: u8) -> usize
     requires { ⌜ (0 < place) × (place ≤ recCount) ⌝ }
     ensures { λ r. ⌜ r ≡ recOff place ⌝ }
 {
-    rows::record::FIRST + rows::record::BYTES * (octets::small(place) - 1)
+    rows::record::record_at(octets::small(place))
 }
 
 // Where the record starts that the link at byte at leads to.
@@ -39,5 +35,5 @@ pub fn cell_off(place: u8) -> usize
     requires { ⌜ (0 < place) × (place ≤ mostCells) ⌝ }
     ensures { λ r. ⌜ r ≡ cellOff place ⌝ }
 {
-    rows::cell::FIRST + rows::cell::BYTES * (octets::small(place) - 1)
+    rows::cell::cell_at(octets::small(place))
 }

@@ -1,4 +1,3 @@
 pub mod Subnet
 pub mod Book
 pub mod Admission
-pub mod Answers

@@ -1,5 +1,4 @@
 -- Assumes nothing.
-use Prim.Native.Nat.{ℕ}
 use native.Mathlib.Omega.{arith}
 use Rattle.machine.specs.Codes.{roleReceive}
 use Rattle.store.specs.Refuse.{refused, done}

@@ -1,6 +1,5 @@
 -- Assumes nothing.
 use Rattle.inbox.proofs.Chunks.{beyond, within}
-use borrow.Author.Needs.{needs}
 use Rattle.inbox.proofs.chunk.fits.Statement.{statement}
 use Rattle.inbox.proofs.chunk.fits.Tie as tie
 

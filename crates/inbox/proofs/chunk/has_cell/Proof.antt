@@ -4,7 +4,6 @@ use Rattle.machine.specs.Codes.{roleReceive}
 use Rattle.machine.specs.Layout.{decode}
 use Rattle.store.specs.HeldAt.{recIn}
 use Rattle.inbox.proofs.Chunks.{own-cell, new-cell}
-use borrow.Author.Needs.{needs}
 use Rattle.inbox.proofs.chunk.has_cell.Statement.{statement}
 use Rattle.inbox.proofs.chunk.has_cell.Tie as tie
 

@@ -1,7 +1,5 @@
 -- Assumes nothing.
-use Prim.Native.Nat.{ℕ}
 use mathlib.Core.Path.{ap, _∙_}
-use mathlib.Core.List.{List}
 use Rattle.octets.specs.Octets.{same}
 use Rattle.machine.specs.Codes.{roleReceive}
 use borrow.Author.Needs.{needs}

@@ -1,8 +1,6 @@
 -- Assumes nothing.
-use Prim.Native.Nat.{ℕ}
 use native.Mathlib.Omega.{arith}
 use mathlib.Core.Path.{ap, _∙_}
-use mathlib.Core.List.{List}
 use lib.ListN.{length}
 use Rattle.inbox.specs.Oldest.{oldest-placed, oldest-head}
 use Rattle.inbox.proofs.Takes.{read-is}

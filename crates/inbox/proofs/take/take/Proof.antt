@@ -1,11 +1,9 @@
 -- Assumes nothing.
 use native.Mathlib.Omega.{arith}
-use mathlib.Core.Path.{_∙_}
 use Rattle.machine.specs.Codes.{roleReceive}
 use Rattle.links.specs.InRange.{links}
 use Rattle.store.specs.Established.{takable}
-use Rattle.store.specs.HeldAt.{recIn}
-use Rattle.inbox.specs.Oldest.{Oldest, oldest-placed, oldest-fine, total-is}
+use Rattle.inbox.specs.Oldest.{oldest-placed, oldest-fine, total-is}
 use Rattle.inbox.proofs.Taken.{none-out, run-out, data-out, taken-out}
 use borrow.Author.Needs.{needs}
 use Rattle.inbox.proofs.take.take.Statement.{statement}

@@ -1,12 +1,9 @@
 -- The refusals in document 01's order, then the step and its reply. Assumes nothing.
 use mathlib.Core.Path.{sym, ap, _∙_}
-use mathlib.Core.List.{List}
-use Prim.Native.Nat.{ℕ}
 use lib.ListN.{length}
 use borrow.Author.Tests.{not-true, not-false}
 use Rattle.octets.specs.Octets.{put}
-use Rattle.machine.specs.Calls.{Packet, kind, packetOf}
-use Rattle.inbox.specs.Arrives.{arrival}
+use Rattle.machine.specs.Calls.{Packet, kind, packetOf, arrival}
 use Rattle.message.proofs.Steps.{same-out}
 use Rattle.message.proofs.Packets.{recv-out, send-out, frame-out, kind-out, room-out, step-out, done-out}
 use borrow.Author.Needs.{needs}

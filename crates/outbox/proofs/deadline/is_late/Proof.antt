@@ -5,9 +5,7 @@ use Rattle.outbox.proofs.deadline.is_late.Statement.{statement}
 use Rattle.outbox.proofs.deadline.is_late.Tie as tie
 
 returns : tie.Need-returns
-returns c = mark-read (c .before .before .before .args .send .now) (c .before .before .before .args .at) _ (c .before .row-at .ensures)
+returns c = mark-read (c .before .before .args .send .now) (c .before .before .args .at) _ (c .timed-out .ensures)
 
 pub is-late-spec : {M : Type 1} → statement M
-is-late-spec =
-    tie.close
-    (tie.spec (λ c κs. search needs) (λ c. search needs) (λ c. search needs) returns)
+is-late-spec = tie.close (tie.spec (λ c κs. search needs) returns)

@@ -5,10 +5,10 @@ use mathlib.Core.Path.{_≡_, ap, _∙_}
 use lib.ListN.{length, getD}
 use Rattle.octets.specs.Octets.{Bytes, pow}
 use Rattle.machine.specs.Typed.{TypedClock}
+use Rattle.machine.specs.Codes.{roleSend}
 use Rattle.cells.specs.InPlace.{CellIn}
 use Rattle.cells.specs.Read.{cell-in}
 use Rattle.outbox.specs.Sending.{Turn}
-use Rattle.outbox.specs.Here.{here}
 use Rattle.outbox.proofs.Going.{Going, going-start, going-long, going-turn, going-more, going-done, going-out}
 use Rattle.outbox.proofs.due.send_due.Statement.{statement}
 use Rattle.outbox.proofs.due.send_due.Tie as tie
@@ -28,12 +28,12 @@ unfolding pow
 typed c = omega (arith, c .before .fits .clock)
 
 first-cell-requires : tie.Need-first-cell-requires Inv-loop μ-loop
-first-cell-requires c κs = let known = c .before .before .before in here _ (bytes known) _ (known .before .pre .0)
+first-cell-requires c κs = (roleSend, c .before .before .before .before .pre .0)
 
 loop-holds : tie.Need-loop-holds Inv-loop μ-loop
 loop-holds c =
     let known = c .before .before .before .before in
-    (omega arith, going-start _ (bytes known) _ (known .before .pre .0) _ (typed known) _ (known .before .pre .2) _ (c .first-cell .ensures))
+    (omega arith, going-start _ (bytes known) _ (known .before .pre .0) _ (typed known) _ (known .before .pre .2) _ (c .first-cell .ensures .0))
 
 -- the store and the run keep their lengths
 lengths : (c : tie.At-loop Inv-loop μ-loop)

@@ -7,8 +7,7 @@ use Rattle.machine.specs.Values.{Store}
 use Rattle.machine.specs.Layout.{decode}
 use Rattle.machine.specs.Refusals.{refusal}
 use Rattle.machine.specs.Send.{pushStep, initOut}
-use Rattle.machine.specs.Calls.{Push, yes, pushHead}
-use Rattle.outbox.specs.Pushing.{pushed, soundRow}
+use Rattle.machine.specs.Calls.{Push, yes, pushHead, pushed, pushTests}
 use Rattle.outbox.proofs.Sent.{refused-out, sent-out}
 use Rattle.outbox.proofs.Pushes.{push-end, push-room, pushable, init-put, init-long}
 use borrow.Author.Needs.{needs}
@@ -20,7 +19,7 @@ abbrev what : tie.Start → Push
 what s = pushed (s .args .id .now) (s .args .reply) (s .args .from .now) (s .args .to .now) (s .args .topic .now) (s .args .bytes .now) (s .args .created) (s .args .try-ms)
 
 abbrev way : tie.Start → ℕ
-way s = refusal (soundRow (what s) (decode (s .args .send .now)) (length (s .args .run .now)))
+way s = refusal (pushTests (what s) (decode (s .args .send .now)) (length (s .args .run .now)))
 
 abbrev step : tie.Start → Store
 step s = pushStep (pushHead (what s)) (s .args .created) (s .args .created + s .args .try-ms) (s .args .bytes .now) (decode (s .args .send .now))

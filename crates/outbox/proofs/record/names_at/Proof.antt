@@ -7,7 +7,7 @@ use Rattle.outbox.proofs.record.names_at.Tie as tie
 returns : tie.Need-returns
 returns c =
     let row = c .before .before .before .before in
-    names-are _ _ _ _ (row .row-at .ensures) (row .before .before .pre .row) (c .before .copy-in .ensures)
+    names-are _ _ _ _ (row .row-at .ensures .0) (row .before .before .pre .row) (c .before .copy-in .ensures)
 
 pub names-at-spec : {M : Type 1} → statement M
 names-at-spec =

@@ -7,12 +7,16 @@ use borrow.Author.Needs.{needs}
 use Rattle.soundness.proofs.records.same_key.Statement.{statement}
 use Rattle.soundness.proofs.records.same_key.Tie as tie
 
--- src/records.rt:15:1
 returns : tie.Need-returns
 unfolding sameKey
-returns c = c .equal .ensures ∙ (λ i. same (key-is (c .before .before .before .before .args .s .now) (c .before .before .before .before .args .x) i) (key-is (c .before .before .before .before .args .s .now) (c .before .before .before .before .args .y) i))
+returns c =
+    let other = c .before .before .before in
+    let one = other .before in
+    let start = one .before .before in
+    c .equal .ensures
+    ∙ (λ i. same (key-is (start .args .s .now) (start .args .x) _ (one .record-at .ensures) i) (key-is (start .args .s .now) (start .args .y) _ (other .record-at2 .ensures) i))
 
 pub same-key-spec : {M : Type 1} → statement M
 same-key-spec =
     tie.close
-    (tie.spec (λ c. search needs) (λ c. search needs) (λ c. search needs) (λ c. search needs) (λ c. search needs) (λ c. search needs) (λ c. search needs) (λ c. search needs) (λ c. search needs) (λ c. search needs) (λ c. search needs) (λ c. search needs) (λ c. search needs) (λ c. search needs) (λ c. search needs) (λ c. search needs) (λ c κs. search needs) returns)
+    (tie.spec (λ c κs. search needs) (λ c. search needs) (λ c κs. search needs) (λ c. search needs) (λ c. search needs) (λ c. search needs) (λ c. search needs) (λ c. search needs) (λ c. search needs) (λ c. search needs) (λ c. search needs) (λ c. search needs) (λ c κs. search needs) returns)

@@ -2,7 +2,6 @@
 use native.Mathlib.Omega.{arith}
 use Rattle.links.specs.InRange.{links}
 use Rattle.store.specs.Established.{free-is}
-use borrow.Author.Needs.{needs}
 use Rattle.store.proofs.find.is_free.Statement.{statement}
 use Rattle.store.proofs.find.is_free.Tie as tie
 

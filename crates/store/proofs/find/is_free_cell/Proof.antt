@@ -2,7 +2,6 @@
 use native.Mathlib.Omega.{arith}
 use Rattle.links.specs.InRange.{links}
 use Rattle.store.specs.Established.{freeCells-is}
-use borrow.Author.Needs.{needs}
 use Rattle.store.proofs.find.is_free_cell.Statement.{statement}
 use Rattle.store.proofs.find.is_free_cell.Tie as tie
 

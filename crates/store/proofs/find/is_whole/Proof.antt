@@ -1,11 +1,10 @@
 -- Assumes nothing.
-use Prim.Native.Nat.{ℕ, _<_}
-use mathlib.Core.Path.{ap, sym, subst, _∙_}
-use lib.ListN.{length, getD}
+use Prim.Native.Nat.{ℕ}
+use mathlib.Core.Path.{ap, _∙_}
+use lib.ListN.{getD}
 use lib.Dec.{ltb}
 use Rattle.links.specs.InRange.{links}
 use Rattle.store.specs.Established.{whole-is, whole-inside}
-use borrow.Author.Needs.{needs}
 use Rattle.store.proofs.find.is_whole.Statement.{statement}
 use Rattle.store.proofs.find.is_whole.Tie as tie
 

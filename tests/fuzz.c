@@ -1,11 +1,13 @@
 /* Feeds random and mutated bytes, lengths, stores and numbers to every export, and checks of each answer: the number is one of document 01's, the run fits its
- * buffer, bytes past what was written stay, and a refusal changed nothing. Use: fuzz [SEED [ROUNDS]]; under valgrind it also shows that nothing outside the
- * buffers is touched, for each lies in an allocation of its own. Exits with 0 and a last line 'N passed, 0 failed' if every answer was right. */
+ * buffer, bytes past what was written stay, and a refusal changed nothing. Use: fuzz [SEED [ROUNDS [MET]]]; under valgrind it also shows that nothing outside the
+ * buffers is touched, for each lies in an allocation of its own. Exits with 0 if every answer was right and at least MET of the 25 refusals were met. */
 #include <stdio.h>
 #include <stdlib.h>
 #include <string.h>
 
 #include "socketlemon.h"
+
+enum { REFUSALS = 25 };
 
 typedef struct {
     uint8_t *at, *was;
@@ -14,6 +16,7 @@ typedef struct {
 
 static uint64_t state;
 static unsigned long passed, failed;
+static int met[REFUSALS + 1];
 
 static uint64_t next(void) {
     state ^= state << 13;
@@ -49,6 +52,13 @@ static void expect(const char *what, int right) {
     }
 }
 
+/* Whether a number is one of document 01's; it is noted as met. */
+static int known(uint64_t number) {
+    if (number > REFUSALS) return 0;
+    met[number] = 1;
+    return 1;
+}
+
 /* One length of a few: fitting, one off, or anything. */
 static size_t around(size_t fits, size_t most) {
     switch (below(6)) {
@@ -59,7 +69,7 @@ static size_t around(size_t fits, size_t most) {
 }
 
 static void answer(const char *what, socketlemon_answer a, buffer run, size_t changed_stores, buffer *stores) {
-    int right = a.number <= 25 && a.wake <= 1 && a.run <= run.len && same_from(run, (size_t)a.run);
+    int right = known(a.number) && a.wake <= 1 && a.run <= run.len && same_from(run, (size_t)a.run);
     if (a.number != 0) {
         right = right && a.run == 0 && a.wake == 0 && same_from(run, 0);
         for (size_t i = 0; i < changed_stores; i++) right = right && same_from(stores[i], 0);
@@ -151,7 +161,7 @@ static void one_call(buffer *stores) {
         run = make(around(SOCKETLEMON_REPORT, 60));
         keep(run), keep(send);
         socketlemon_answer a = socketlemon_report(send.at, send.len, id, run.at, run.len);
-        expect("report", a.number <= 25 && a.run == 0 && a.wake == 0 && same_from(send, 0) && same_from(run, a.number ? 0 : SOCKETLEMON_REPORT));
+        expect("report", known(a.number) && a.run == 0 && a.wake == 0 && same_from(send, 0) && same_from(run, a.number ? 0 : SOCKETLEMON_REPORT));
         break;
     }
     case 3: {
@@ -167,7 +177,7 @@ static void one_call(buffer *stores) {
         run = make(around(SOCKETLEMON_ADDRESS, 20));
         keep(run);
         socketlemon_answer a = socketlemon_address(key.at, key.len, run.at, run.len);
-        expect("address", a.number <= 2 && same_from(run, a.number ? 0 : SOCKETLEMON_ADDRESS));
+        expect("address", known(a.number) && a.number <= 2 && same_from(run, a.number ? 0 : SOCKETLEMON_ADDRESS));
         drop(key);
         break;
     }
@@ -182,7 +192,7 @@ static void sequence(void) {
     for (int i = 0; i < 2; i++) {
         keep(stores[i]);
         socketlemon_answer a = socketlemon_setup(stores[i].at, stores[i].len - (below(10) == 0), 1 + (uint64_t)i);
-        expect("setup", a.number == 0 || (a.number == 25 && same_from(stores[i], 0)));
+        expect("setup", known(a.number) && (a.number == 0 || (a.number == 25 && same_from(stores[i], 0))));
         if (a.number != 0) socketlemon_setup(stores[i].at, stores[i].len, 1 + (uint64_t)i);
     }
     for (size_t calls = below(120); calls > 0; calls--) one_call(stores);
@@ -198,6 +208,8 @@ static void sequence(void) {
 int main(int argc, char **argv) {
     state = argc > 1 ? strtoull(argv[1], NULL, 0) * 2 + 1 : 1;
     for (unsigned long rounds = argc > 2 ? strtoul(argv[2], NULL, 0) : 300; rounds > 0; rounds--) sequence();
-    printf("%lu passed, %lu failed\n", passed, failed);
-    return failed != 0;
+    int refusals = 0, wanted = argc > 3 ? atoi(argv[3]) : 0;
+    for (int number = 1; number <= REFUSALS; number++) refusals += met[number];
+    printf("%lu answers right, %lu wrong; %d of %d refusals met\n", passed, failed, refusals, REFUSALS);
+    return failed != 0 || refusals < wanted;
 }

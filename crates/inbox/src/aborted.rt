@@ -1,6 +1,6 @@
 // Aborted: the sender has given up.
 
-use packet::header;
+use packet::reader;
 use store::find;
 ghost use mathlib.Core.Path.{_≡_};
 ghost use lib.ListN.{length};
@@ -17,7 +17,7 @@ pub fn abort(recv: &mut [u8], frame: &[u8]) -> u64
     requires { ⌜ Receives (now recv) × (length (now frame) ≡ frameBytes) ⌝ }
     ensures { λ r. ⌜ record { number = r; store = now (recv .exit) } ≡ stepped (refusal (heldRow (found (idOf (now (frame .entry))) (decode (now (recv .entry)) .held)))) (dropStep (idOf (now (frame .entry))) (decode (now (recv .entry)))) (now (recv .entry)) ⌝ }
 {
-    let at = find::find_held(recv, header::id(frame));
+    let at = find::find_held(recv, reader::id(frame));
     if recv[at] == 0 {
         return answer::UNKNOWN_ID;
     }

@@ -1,7 +1,6 @@
 // Chunk: a piece of a message comes.
 
-use packet::chunk::MessageChunk;
-use packet::header;
+use packet::reader;
 use rows::message;
 use store::field;
 use store::find;
@@ -77,18 +76,18 @@ pub fn chunk(recv: &mut [u8], frame: &[u8]) -> u64
     requires { ⌜ Receives (now recv) × (length (now frame) ≡ frameBytes) ⌝ }
     ensures { λ r. ⌜ record { number = r; store = now (recv .exit) } ≡ stepped (refusal (chunkRow (chunkIndex (now (frame .entry))) (chunkOffset (now (frame .entry))) (chunkSize (now (frame .entry))) (decode (now (recv .entry))) (found (idOf (now (frame .entry))) (decode (now (recv .entry)) .held)))) (chunkStep (idOf (now (frame .entry))) (chunkIndex (now (frame .entry))) (piece (now (frame .entry))) (decode (now (recv .entry)))) (now (recv .entry)) ⌝ }
 {
-    let at = find::find_held(recv, header::id(frame));
-    let index = MessageChunk::index(frame);
+    let at = find::find_held(recv, reader::id(frame));
+    let index = reader::index(frame);
     let number = refusal(
         recv,
         at,
         index,
-        MessageChunk::offset(frame),
-        MessageChunk::size(frame) as u64,
+        reader::offset(frame),
+        reader::size(frame) as u64,
     );
     if number != answer::DONE {
         return number;
     }
-    cells::insert::put_piece(recv, at, index, MessageChunk::piece(frame));
+    cells::insert::put_piece(recv, at, index, reader::piece(frame));
     answer::DONE
 }

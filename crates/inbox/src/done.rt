@@ -1,7 +1,6 @@
 // Done: all pieces were sent. The message is whole where they are all there and their sum is the sender's.
 
-use packet::done::MessageDone;
-use packet::header;
+use packet::reader;
 use store::field;
 use store::find;
 ghost use mathlib.Core.Path.{_≡_};
@@ -62,14 +61,8 @@ pub fn done(recv: &mut [u8], frame: &[u8], known: u64) -> u64
     requires { ⌜ Receives (now recv) × (length (now frame) ≡ frameBytes) ⌝ }
     ensures { λ r. ⌜ record { number = r; store = now (recv .exit) } ≡ stepped (refusal (doneRow (doneCount (now (frame .entry))) (doneSum (now (frame .entry))) (yes known) (found (idOf (now (frame .entry))) (decode (now (recv .entry)) .held)))) (doneStep (idOf (now (frame .entry))) (decode (now (recv .entry)))) (now (recv .entry)) ⌝ }
 {
-    let at = find::find_held(recv, header::id(frame));
-    let number = refusal(
-        recv,
-        at,
-        MessageDone::count(frame),
-        MessageDone::sum(frame),
-        known,
-    );
+    let at = find::find_held(recv, reader::id(frame));
+    let number = refusal(recv, at, reader::count(frame), reader::sum(frame), known);
     if number != answer::DONE {
         return number;
     }

@@ -1,7 +1,7 @@
 // Init: a message is announced, with its length and its topic.
 
 use packet::header;
-use packet::init::MessageInit;
+use packet::reader;
 use topic::Admission;
 ghost use mathlib.Core.Path.{_≡_};
 ghost use lib.ListN.{length};
@@ -31,10 +31,10 @@ fn rules_refusal(frame: &[u8], from: &[u8; 16], rules: &[u8]) -> u64
     requires { ⌜ length (now frame) ≡ frameBytes ⌝ }
     ensures { λ r. ⌜ r ≡ refusal (rulesRow (arrival (now (frame .entry)) (now (from .entry)) (now (from .entry)) (now (rules .entry)) 0)) ⌝ }
 {
-    if header::is_reply(header::flags(frame)) {
+    if header::is_reply(reader::flags(frame)) {
         return answer::DONE;
     }
-    admission(rules, MessageInit::topic(frame), from)
+    admission(rules, reader::topic(frame), from)
 }
 
 // Rows 3 to 7: the refusal of an init.
@@ -46,11 +46,11 @@ fn refusal(recv: &[u8], frame: &[u8], from: &[u8; 16], rules: &[u8]) -> u64
     if rules != answer::DONE {
         return rules;
     }
-    let id = header::id(frame);
+    let id = reader::id(frame);
     if store::find::is_whole(recv, id) {
         return answer::ALREADY_WHOLE;
     }
-    if MessageInit::length(frame) > rows::message::LONGEST {
+    if reader::length(frame) > rows::message::LONGEST {
         return answer::TOO_LONG;
     }
     if store::find::is_held(recv, id) {
@@ -67,10 +67,10 @@ fn start(recv: &mut [u8], frame: &[u8], from: &[u8; 16], to: &[u8; 16])
     requires { ⌜ Receives (now recv) × (length (now frame) ≡ frameBytes) × Startable (decode (now recv)) (now frame) ⌝ }
     ensures { λ _. ⌜ now (recv .exit) ≡ encode (initStep (initHead (arrival (now (frame .entry)) (now (from .entry)) (now (to .entry)) [] 0)) (decode (now (recv .entry)))) ⌝ }
 {
-    let id = header::id(frame);
-    let reply = header::is_reply(header::flags(frame));
-    let total = MessageInit::length(frame);
-    let topic = MessageInit::topic(frame);
+    let id = reader::id(frame);
+    let reply = header::is_reply(reader::flags(frame));
+    let total = reader::length(frame);
+    let topic = reader::topic(frame);
     let at = store::find::find_held(recv, id);
     if recv[at] == 0 {
         store::open::open_arriving(recv, id, from, to, reply, total, topic);

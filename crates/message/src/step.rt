@@ -2,6 +2,7 @@
 
 use packet::header;
 use packet::header::Kind;
+use packet::reader;
 use packet::run;
 use rows::record;
 ghost use mathlib.Core.Path.{_≡_};
@@ -25,7 +26,7 @@ fn kind_in(frame: &[u8]) -> Kind
     requires { ⌜ length (now frame) ≡ frameBytes ⌝ }
     ensures { λ r. ⌜ r ≡ kindOf (flagsOf (now (frame .entry))) ⌝ }
 {
-    header::kind_of(header::flags(frame))
+    header::kind_of(reader::flags(frame))
 }
 
 // Whether the packet is of any kind.

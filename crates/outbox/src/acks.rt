@@ -1,7 +1,6 @@
 // Acknowledgements and the read: the office tells how far it is. Document 01: "Ack init 0 to 1, ack done 1 to 2, read 2 to 3; ack chunk needs 1 and marks
 // its piece Acked. Any other state is 18."
-use packet::chunk::MessageChunk;
-use packet::header;
+use packet::reader;
 use rows::record::IN_PROGRESS;
 use store::field;
 use store::find;
@@ -23,7 +22,7 @@ pub fn advance(send: &mut [u8], frame: &[u8], state: u8, next: u8) -> u64
     requires { ⌜ Sends (now send) × (length (now frame) ≡ frameBytes) × (next ≤ stateAborted) ⌝ }
     ensures { λ r. ⌜ record { number = r; store = now (send .exit) } ≡ stepped (refusal (stateRow state (found (idOf (now (frame .entry))) (decode (now (send .entry)) .held)))) (change (withState next) (idOf (now (frame .entry))) (decode (now (send .entry)))) (now (send .entry)) ⌝ }
 {
-    let at = find::find_held(send, header::id(frame));
+    let at = find::find_held(send, reader::id(frame));
     if send[at] == 0 {
         return answer::UNKNOWN_ID;
     }
@@ -39,14 +38,14 @@ pub fn ack_chunk(send: &mut [u8], frame: &[u8]) -> u64
     requires { ⌜ Sends (now send) × (length (now frame) ≡ frameBytes) ⌝ }
     ensures { λ r. ⌜ record { number = r; store = now (send .exit) } ≡ stepped (refusal (ackChunkRow (chunkIndex (now (frame .entry))) (found (idOf (now (frame .entry))) (decode (now (send .entry)) .held)))) (change (ackPiece (chunkIndex (now (frame .entry)))) (idOf (now (frame .entry))) (decode (now (send .entry)))) (now (send .entry)) ⌝ }
 {
-    let at = find::find_held(send, header::id(frame));
+    let at = find::find_held(send, reader::id(frame));
     if send[at] == 0 {
         return answer::UNKNOWN_ID;
     }
     if field::state(send, at) != IN_PROGRESS {
         return answer::WRONG_STATE;
     }
-    let index = MessageChunk::index(frame);
+    let index = reader::index(frame);
     if index >= cells::pieces::count_pieces(send, at) {
         return answer::NO_SUCH_PIECE;
     }

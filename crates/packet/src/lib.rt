@@ -5,4 +5,5 @@ pub mod chunk;
 pub mod done;
 pub mod header;
 pub mod init;
+pub mod reader;
 pub mod run;

@@ -141,17 +141,17 @@ fn replies() {
 // The fields that a frame gives as each kind of packet.
 fn fields() {
     let f = frame();
-    write_hex(packet::header::id(&f));
-    io::print_decimal(STDOUT_FILENO, packet::init::MessageInit::length(&f));
+    write_hex(packet::reader::id(&f));
+    io::print_decimal(STDOUT_FILENO, packet::reader::length(&f));
     line();
-    write_hex(packet::init::MessageInit::topic(&f));
-    io::print_decimal(STDOUT_FILENO, packet::chunk::MessageChunk::index(&f));
+    write_hex(packet::reader::topic(&f));
+    io::print_decimal(STDOUT_FILENO, packet::reader::index(&f));
     line();
-    io::print_decimal(STDOUT_FILENO, packet::chunk::MessageChunk::offset(&f));
+    io::print_decimal(STDOUT_FILENO, packet::reader::offset(&f));
     line();
-    io::print_decimal(STDOUT_FILENO, packet::chunk::MessageChunk::size(&f) as u64);
+    io::print_decimal(STDOUT_FILENO, packet::reader::size(&f) as u64);
     line();
-    write_hex(packet::done::MessageDone::sum(&f));
+    write_hex(packet::reader::sum(&f));
 }
 
 fn main() {

@@ -1,0 +1,4 @@
+mod Field
+mod Fields
+mod Accessor
+mod Through

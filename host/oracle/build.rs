@@ -70,6 +70,7 @@ fn take_original(here: &Path) {
     let root = "#[allow(warnings)]\npub mod crypto;\n#[allow(warnings)]\npub mod message;\n#[allow(warnings)]\npub mod subnet;\n";
     fs::write(out.join("original.rs"), root).unwrap_or_else(|e| fail(format!("original.rs: {e}.")));
     println!("cargo:rustc-cfg=original");
+    println!("cargo:at-hand=yes");
 }
 
 fn fail(why: String) -> ! {

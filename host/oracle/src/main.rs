@@ -2,25 +2,19 @@
 
 use std::process::ExitCode;
 
-// Without the original, lists are only read.
-#[cfg_attr(not(original), allow(dead_code))]
-mod call;
 mod commands;
-#[cfg(original)]
-mod data;
 mod judge;
 mod library;
+// Without the original, lists are only read.
 #[cfg_attr(not(original), allow(dead_code))]
 mod list;
 #[cfg(original)]
 mod live;
-#[cfg(original)]
-mod metrics;
 mod replay;
 
-// The original's own files, unchanged: crypto, message with its parts, subnet.
+use oracle::call;
 #[cfg(original)]
-include!(concat!(env!("OUT_DIR"), "/original.rs"));
+use oracle::{crypto, data, frame, message, subnet};
 
 fn main() -> ExitCode {
     let words: Vec<String> = std::env::args().skip(1).collect();

@@ -3,7 +3,7 @@
 use std::collections::{BTreeMap, BTreeSet};
 
 use crate::call::{Call, Said, Wake, Woke, TOPIC_TOO_LARGE};
-use crate::live::frame::{self, Kind};
+use crate::frame::{self, Kind};
 
 #[derive(Default)]
 pub struct Coverage {

@@ -4,7 +4,6 @@ mod clock;
 pub mod compare;
 pub mod coverage;
 pub mod fault;
-mod frame;
 mod plan;
 mod rng;
 mod rules;

@@ -3,8 +3,8 @@
 use std::collections::BTreeSet;
 
 use crate::call::{Address, Call, Id, Packet, Push, Setup, ACK, FRAME};
+use crate::frame;
 use crate::live::coverage::BOUNDARY_LENGTHS;
-use crate::live::frame;
 use crate::live::rng::Rng;
 use crate::live::rules::Book;
 use crate::live::run::Step;

@@ -1,13 +1,13 @@
 //! Runs the library and the original side by side on a sequence of steps and holds each answer against the other.
 
 use crate::call::{Call, Got, Id, Packet, Said, Setup, Wake, Woke, ACK};
+use crate::frame::{self, Kind};
 use crate::judge::judge;
 use crate::library::Node;
 use crate::list::{Entry, List};
 use crate::live::clock;
 use crate::live::coverage::Coverage;
 use crate::live::fault::Fault;
-use crate::live::frame::{self, Kind};
 use crate::live::stack::{self, Original};
 use crate::live::tally::Tally;
 use crate::live::words;

@@ -3,10 +3,10 @@
 use std::collections::BTreeSet;
 
 use crate::call::{Address, Call, Id, Packet, Push, Setup, FRAME};
+use crate::frame;
 use crate::list::List;
 use crate::live::compare;
 use crate::live::coverage::{Coverage, BOUNDARY_LENGTHS};
-use crate::live::frame;
 use crate::live::run::{Difference, Run, Step};
 use crate::live::{clock, stack};
 

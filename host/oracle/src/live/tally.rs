@@ -4,7 +4,7 @@
 use std::collections::BTreeMap;
 
 use crate::call::{Call, Id, Packet, Push, Said, Setup, Taken, ACK, UNKNOWN_ID};
-use crate::live::frame::{self, Kind};
+use crate::frame::{self, Kind};
 
 const RECORDS: usize = 8;
 const LONGEST: u64 = 32_500;

@@ -1,0 +1,110 @@
+//! Packet calls of each kind: the library, the original's handler, and a plain scan of the stores' bytes. What a call starts from is made anew for each, outside
+//! the measured time.
+
+use benches::library::Node;
+use benches::scene::{self, Scene};
+use criterion::{black_box, criterion_group, criterion_main, BatchSize, BenchmarkId, Criterion};
+use criterion::{measurement::WallTime, BenchmarkGroup};
+
+const CELLS: [usize; 4] = [1, 5, 15, 45];
+const MOST_CELLS: usize = 45;
+
+/// The calls that show the cost of the number of cells.
+const BY_CELLS: [&str; 2] = ["read-unknown", "chunk-held"];
+
+type Group<'a> = BenchmarkGroup<'a, WallTime>;
+
+/// Times `routine` on a copy of `start`, one call at a time: the stores' bytes are as near as after a copy.
+fn time<I: Clone, O>(group: &mut Group<'_>, name: BenchmarkId, start: &I, routine: impl Fn(&mut I) -> O) {
+    group.bench_function(name, |b| b.iter_batched_ref(|| start.clone(), &routine, BatchSize::PerIteration));
+}
+
+/// Zero bytes as many as in two stores.
+fn zeros(cells: usize) -> [Vec<u8>; 2] {
+    let bytes = Node::new(benches::KEY, benches::PEER_KEY, cells).store_bytes();
+    [vec![0; bytes], vec![0; bytes]]
+}
+
+/// Whether all bytes are zero, left at the first that is not.
+fn all_zero(bytes: &[u8]) -> bool {
+    bytes.iter().all(|byte| *byte == 0)
+}
+
+/// Whether all bytes are zero, by joining them all.
+fn joined_zero(bytes: &[u8]) -> bool {
+    bytes.iter().fold(0, |joined, byte| joined | byte) == 0
+}
+
+/// A scan of both stores' bytes.
+fn scan(group: &mut Group<'_>, name: BenchmarkId, zero: fn(&[u8]) -> bool, cells: usize) {
+    time(group, name, &zeros(cells), |stores| stores.iter().all(|store| zero(black_box(store))));
+}
+
+/// The library's call.
+fn ours(group: &mut Group<'_>, name: BenchmarkId, scene: &Scene, cells: usize) {
+    let start = Node::of(scene, cells);
+    assert_eq!(start.clone().packet(&scene.frame).err(), scene.refusal, "{}", scene.name);
+    time(group, name, &start, |node| {
+        node.packet(black_box(&scene.frame)).map(|(run, wake)| (run.as_bytes().len(), wake))
+    });
+}
+
+/// The original's call, on a node that is made anew each time. Both have sent the same number of packets.
+#[cfg(original)]
+fn original(group: &mut Group<'_>, scene: &Scene) {
+    use benches::{library, original};
+    use std::time::Duration;
+
+    let node = original::Node::of(scene);
+    node.packet(&scene.frame);
+    let replies = node.sent().iter().filter(|packet| packet.flags() & oracle::call::ACK != 0).count();
+    let mut node = Node::of(scene, MOST_CELLS);
+    let ours = node.packet(&scene.frame).map_or(0, |(run, _)| library::packets(run).len());
+    assert_eq!(ours, replies, "replies to {}", scene.name);
+
+    let call = || original::Node::of(scene).packet(black_box(&scene.frame));
+    group.bench_function(BenchmarkId::new("original", scene.name), |b| {
+        b.iter_custom(|calls| (0..calls).map(|_| call()).sum::<Duration>())
+    });
+}
+
+#[cfg(not(original))]
+fn original(_: &mut Group<'_>, _: &Scene) {}
+
+/// Each kind on the largest stores, and beside it the quicker scan: what is compared is measured close together.
+fn calls(c: &mut Criterion) {
+    for (name, scenes) in [("full", scene::full(MOST_CELLS)), ("empty", scene::empty())] {
+        let mut group = c.benchmark_group(format!("calls-{name}"));
+        for scene in scenes {
+            scan(&mut group, BenchmarkId::new("scan", scene.name), joined_zero, MOST_CELLS);
+            ours(&mut group, BenchmarkId::new("ours", scene.name), &scene, MOST_CELLS);
+            original(&mut group, &scene);
+        }
+    }
+}
+
+/// Stores of every size: both scans, and two calls.
+fn cells(c: &mut Criterion) {
+    for cells in CELLS {
+        let mut group = c.benchmark_group("scan");
+        scan(&mut group, BenchmarkId::new("all", cells), all_zero, cells);
+        scan(&mut group, BenchmarkId::new("joined", cells), joined_zero, cells);
+        group.finish();
+        for (name, scenes) in [("full", scene::full(cells)), ("empty", scene::empty())] {
+            let mut group = c.benchmark_group(format!("cells-{name}"));
+            for scene in scenes.iter().filter(|scene| BY_CELLS.contains(&scene.name)) {
+                ours(&mut group, BenchmarkId::new(scene.name, cells), scene, cells);
+            }
+        }
+    }
+}
+
+/// What the clock itself adds to each call.
+fn clock(c: &mut Criterion) {
+    time(&mut c.benchmark_group("clock"), BenchmarkId::new("nothing", 0), &zeros(1), |stores| {
+        black_box(stores).len()
+    });
+}
+
+criterion_group!(all, calls, cells, clock);
+criterion_main!(all);

@@ -1,0 +1,29 @@
+//! What the benchmarks share: messages and packets, and a node of each kind that they are handed to.
+
+pub mod library;
+#[cfg(original)]
+pub mod original;
+pub mod scene;
+
+/// The bytes of each piece that is sent.
+pub const PIECE: usize = socketlemon::PIECE;
+
+/// The longest message, 25 pieces.
+pub const LONGEST: usize = socketlemon::MOST_BYTES;
+
+/// The key of the node that is timed.
+pub const KEY: [u8; 32] = [1; 32];
+
+/// The key of the node that it talks with.
+pub const PEER_KEY: [u8; 32] = [2; 32];
+
+/// A message in which each piece is different.
+pub fn message(length: usize) -> Vec<u8> {
+    (0..length).map(|i| (i * 31 + i / 251 + i / PIECE) as u8).collect()
+}
+
+/// A packet as it arrives: a whole frame.
+pub fn framed(mut packet: Vec<u8>) -> Vec<u8> {
+    packet.resize(socketlemon::FRAME, 0);
+    packet
+}

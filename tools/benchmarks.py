@@ -1,0 +1,207 @@
+#!/usr/bin/env python3
+"""Writes the page docs/BENCHMARKS.md from the estimates that criterion left in a folder: ./bench runs it. All figures are medians in nanoseconds."""
+import datetime
+import json
+import os
+import pathlib
+import subprocess
+import sys
+
+SUM_BAR, SUM_REACH = 0.75, 1.0
+CALL_BAR, CALL_REACH = 2.0, 1.2
+LONGEST = 32500
+CELLS = (1, 5, 15, 45)
+KINDS = {
+    "init-new": "init, new id",
+    "init-restart": "init, held id",
+    "chunk-new": "chunk, new index",
+    "chunk-held": "chunk, held index",
+    "done": "done, sum of 32,500 bytes",
+    "read-unknown": "read, unknown id (8)",
+    "aborted": "aborted",
+    "ack-init": "ack of an init",
+    "ack-chunk": "ack of a chunk",
+    "ack-done": "ack of a done",
+}
+SUMMED = "done"
+
+
+class Figures:
+    """The medians in criterion's folder, by group, function and value."""
+
+    def __init__(self, folder):
+        self.folder = pathlib.Path(folder)
+
+    def find(self, *place):
+        file = self.folder.joinpath(*map(str, place), "new", "estimates.json")
+        return json.loads(file.read_text())["median"]["point_estimate"] if file.is_file() else None
+
+    def get(self, *place):
+        figure = self.find(*place)
+        if figure is None:
+            sys.exit(f"benchmarks.py: no estimate of {'/'.join(map(str, place))} in {self.folder}")
+        return figure
+
+    def platforms(self):
+        return sorted(group.name.removeprefix("sums-") for group in self.folder.glob("sums-*"))
+
+
+def ns(figure):
+    return f"{figure:,.0f}"
+
+
+def ratio(figure):
+    return f"{figure:.2f}"
+
+
+def table(head, rows):
+    lines = [head, ["---"] * len(head), *rows]
+    return "\n".join("| " + " | ".join(line) + " |" for line in lines) + "\n"
+
+
+def said(*words):
+    return subprocess.run(words, capture_output=True, text=True, check=True).stdout.strip()
+
+
+def store_bytes(cells):
+    return 16 + 8 * 328 + 1380 * cells
+
+
+def machine():
+    facts = {}
+    for line in pathlib.Path("/proc/cpuinfo").read_text().splitlines():
+        name, _, value = line.partition(":")
+        facts.setdefault(name.strip(), value.strip())
+    cpu = f"{facts['model name']} (family {facts['cpu family']}, model {facts['model']})"
+    virtual = ", virtual" if "hypervisor" in facts["flags"].split() else ""
+    rows = [
+        ["CPU", f"{cpu}, {os.cpu_count()} cores{virtual}, {facts['cache size']} L2"],
+        ["kernel", f"{os.uname().sysname} {os.uname().release}"],
+        ["compilers", f"{said('rustc', '--version')}; {said('rt', 'version')}"],
+        ["date", f"{datetime.datetime.now(datetime.timezone.utc):%Y-%m-%d}"],
+        ["load", f"{os.getloadavg()[1]:.1f} over the last five minutes, of which the benchmarks are 1"],
+    ]
+    return table(["", ""], rows)
+
+
+def verdict(met, reached):
+    return "reached" if reached else "met" if met else "MISSED"
+
+
+def bars(figures):
+    sums = figures.get("sums-Portable", "crate", LONGEST) / figures.get("sums-Portable", "ours", LONGEST)
+    ratios = {
+        (kind, fill): figures.get(f"calls-{fill}", "ours", kind) / figures.get(f"calls-{fill}", "scan", kind)
+        for fill in ("full", "empty")
+        for kind in KINDS
+        if kind != SUMMED
+    }
+    (kind, fill), worst = max(ratios.items(), key=lambda item: item[1])
+    best = min(ratios.values())
+    over = sum(r > CALL_REACH for r in ratios.values())
+    calls = f"at most {ratio(worst)} ({KINDS[kind]}, {fill} stores), at least {ratio(best)}; {over} of {len(ratios)} above {CALL_REACH}"
+    return table(
+        ["bar", "reach", "measured", ""],
+        [
+            [f"BLAKE3 of 32,500 bytes: at least {SUM_BAR} of the portable crate's speed", str(SUM_REACH), ratio(sums),
+             verdict(sums >= SUM_BAR, sums >= SUM_REACH)],
+            [f"a packet call without a sum, 45 cells: at most {CALL_BAR} scans of both stores", str(CALL_REACH), calls,
+             verdict(worst <= CALL_BAR, worst <= CALL_REACH)],
+        ],
+    )
+
+
+def sums(figures):
+    rows = []
+    for platform in reversed(figures.platforms()):
+        for length in (64, 1300, LONGEST):
+            ours, crate = (figures.get(f"sums-{platform}", who, length) for who in ("ours", "crate"))
+            rows.append([f"{platform}", f"{length:,}", ns(ours), ns(crate), f"{1000 * length / ours:,.0f}", ratio(crate / ours)])
+    return table(["the crate's implementation", "bytes", "ours, ns", "crate, ns", "ours, MB/s", "our speed / the crate's"], rows)
+
+
+def calls(figures, fill):
+    rows, original = [], False
+    for kind, name in KINDS.items():
+        ours, scan, theirs = (figures.find(f"calls-{fill}", who, kind) for who in ("ours", "scan", "original"))
+        row = [name, ns(ours), ns(scan), ratio(ours / scan)]
+        if theirs is not None:
+            original = True
+            row += [ns(theirs), ratio(ours / theirs)]
+        rows.append(row)
+    head = ["packet", "ours, ns", "scan, ns", "ours / scan"]
+    return table(head + ["original, ns", "ours / original"] if original else head, rows)
+
+
+def cells(figures):
+    rows = []
+    for count in CELLS:
+        scans = [figures.get("scan", form, count) for form in ("joined", "all")]
+        ours = [figures.get(f"cells-{fill}", kind, count) for fill in ("full", "empty") for kind in ("read-unknown", "chunk-held")]
+        rows.append([str(count), f"{2 * store_bytes(count):,}", *map(ns, scans), *map(ns, ours), ratio(max(ours) / scans[0])])
+    return table(
+        ["cells", "bytes of both stores", "scan, joined", "scan, byte by byte", "full: read", "full: chunk", "empty: read", "empty: chunk", "slowest / joined"],
+        rows,
+    )
+
+
+def transfer(figures):
+    ours, theirs = figures.get("transfer", "ours"), figures.find("transfer", "original")
+    if theirs is None:
+        return table(["ours, ns"], [[ns(ours)]])
+    return table(["ours, ns", "original, ns", "ours / original"], [[ns(ours), ns(theirs), ratio(ours / theirs)]])
+
+
+def page(figures):
+    original = figures.find("transfer", "original") is not None
+    scans = [2 * store_bytes(CELLS[-1]) / figures.get("scan", form, CELLS[-1]) for form in ("all", "joined")]
+    theirs = (
+        "The original's handler is measured by the stream that it takes packets from, from handing a packet out to being asked for the next. Its data plane only keeps what it is given. A node is made "
+        "anew for each call and holds the same messages; it checks no store, which is most of what a call costs here. Its sums are the blake3 crate's with SIMD."
+        if original
+        else "The original was not at hand: its columns are left out."
+    )
+    return f"""# Benchmarks
+
+Written by `./bench` from the estimates of [host/benches](../host/benches): medians, in nanoseconds, of samples so short that other work on the machine interrupts few of them. The two
+figures of a ratio are of one run, measured one after the other.
+
+{machine()}
+## Bars
+
+{bars(figures)}
+## BLAKE3
+
+Against the blake3 crate, by the implementation that it picks: the portable one where SIMD is left out of its build.
+
+{sums(figures)}
+## Packet calls
+
+Stores of 45 cells. Full: every record and cell is held, but for the one that the call takes. Empty: nothing is held but what the call is about (for a done, its 25 pieces). Every call first checks
+that both stores are sound; a free cell has to be zero in all its bytes, a held one past its piece, so an empty store costs more than a full one.
+
+The scan asks whether as many bytes as both stores have are all zero, by joining them: {scans[1]:.0f} bytes per ns, with SIMD. Stopping at the first byte that is not zero reads {scans[0]:.1f} bytes per ns, one at a time; the bar is held
+against the quicker one. Stores are copied anew before each call, outside the measured time. The clock adds {ns(figures.get("clock", "nothing", 0))} ns to every figure of this part.
+
+{theirs}
+
+Full stores:
+
+{calls(figures, "full")}
+Empty stores:
+
+{calls(figures, "empty")}
+## Number of cells
+
+Calls without a sum: a read of an unknown id, and a chunk at a held index. In nanoseconds.
+
+{cells(figures)}
+## A whole transfer
+
+32,500 bytes from one node to another in memory: push, init, 25 chunks, done, each acknowledged, take, read. Packets are copied into frames on the way, on both sides alike; the original runs with its runtime.
+
+{transfer(figures)}"""
+
+
+if __name__ == "__main__":
+    print(page(Figures(sys.argv[1])), end="")

@@ -45,13 +45,22 @@ class Figures:
     def platforms(self):
         return sorted(group.name.removeprefix("sums-") for group in self.folder.glob("sums-*"))
 
+    def rounds(self):
+        """The rounds of the portable sums."""
+        return [Figures(folder) for folder in sorted(self.folder.glob("rounds/*"))]
+
 
 def ns(figure):
     return f"{figure:,.0f}"
 
 
-def ratio(figure):
-    return f"{figure:.2f}"
+def ratio(figure, digits=2):
+    return f"{figure:.{digits}f}"
+
+
+def speed(figures, platform, length):
+    """The library's speed by the crate's."""
+    return figures.get(f"sums-{platform}", "crate", length) / figures.get(f"sums-{platform}", "ours", length)
 
 
 def table(head, rows):
@@ -89,7 +98,7 @@ def verdict(met, reached):
 
 
 def bars(figures):
-    sums = figures.get("sums-Portable", "crate", LONGEST) / figures.get("sums-Portable", "ours", LONGEST)
+    speeds = [speed(one, "Portable", LONGEST) for one in figures.rounds()]
     ratios = {
         (kind, fill): figures.get(f"calls-{fill}", "ours", kind) / figures.get(f"calls-{fill}", "scan", kind)
         for fill in ("full", "empty")
@@ -103,8 +112,8 @@ def bars(figures):
     return table(
         ["bar", "reach", "measured", ""],
         [
-            [f"BLAKE3 of 32,500 bytes: at least {SUM_BAR} of the portable crate's speed", str(SUM_REACH), ratio(sums),
-             verdict(sums >= SUM_BAR, sums >= SUM_REACH)],
+            [f"BLAKE3 of 32,500 bytes: at least {SUM_BAR} of the portable crate's speed", str(SUM_REACH), ", ".join(ratio(one, 3) for one in speeds),
+             verdict(min(speeds) >= SUM_BAR, min(speeds) >= SUM_REACH)],
             [f"a packet call without a sum, 45 cells: at most {CALL_BAR} scans of both stores", str(CALL_REACH), calls,
              verdict(worst <= CALL_BAR, worst <= CALL_REACH)],
         ],
@@ -112,11 +121,13 @@ def bars(figures):
 
 
 def sums(figures):
+    runs = [(f"Portable, round {n}", "Portable", one) for n, one in enumerate(figures.rounds(), 1)]
+    runs += [(platform, platform, figures) for platform in figures.platforms()]
     rows = []
-    for platform in reversed(figures.platforms()):
+    for name, platform, run in runs:
         for length in (64, 1300, LONGEST):
-            ours, crate = (figures.get(f"sums-{platform}", who, length) for who in ("ours", "crate"))
-            rows.append([f"{platform}", f"{length:,}", ns(ours), ns(crate), f"{1000 * length / ours:,.0f}", ratio(crate / ours)])
+            ours, crate = (run.get(f"sums-{platform}", who, length) for who in ("ours", "crate"))
+            rows.append([name, f"{length:,}", ns(ours), ns(crate), f"{1000 * length / ours:,.0f}", ratio(speed(run, platform, length), 3)])
     return table(["the crate's implementation", "bytes", "ours, ns", "crate, ns", "ours, MB/s", "our speed / the crate's"], rows)
 
 
@@ -172,7 +183,7 @@ figures of a ratio are of one run, measured one after the other.
 {bars(figures)}
 ## BLAKE3
 
-Against the blake3 crate, by the implementation that it picks: the portable one where SIMD is left out of its build.
+Against the blake3 crate, by the implementation that it picks: the portable one where SIMD is left out of its build. That is run in three rounds, and the bar is held against the worst.
 
 {sums(figures)}
 ## Packet calls

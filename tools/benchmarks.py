@@ -209,7 +209,7 @@ Calls without a sum: a read of an unknown id, and a chunk at a held index. In na
 {cells(figures)}
 ## A whole transfer
 
-32,500 bytes from one node to another in memory: push, init, 25 chunks, done, each acknowledged, take, read. Packets are copied into frames on the way, on both sides alike; the original runs with its runtime.
+32,500 bytes from one node to another in memory: push, init, 25 chunks, done, each acknowledged, take, read. Packets are copied into frames on the way, on both sides alike{"; the original runs with its runtime" if original else ""}.
 
 {transfer(figures)}"""
 

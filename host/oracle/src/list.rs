@@ -1,4 +1,4 @@
-//! Lists of calls with what the original put out, as text: see tests/original/README.md for the form.
+//! Lists of calls with what the original put out, as text: see crates/replay/README.md for the form.
 
 use std::collections::BTreeSet;
 use std::fmt::Write;

@@ -5,9 +5,9 @@ use std::path::PathBuf;
 use std::process::Command;
 
 fn lists() -> Vec<PathBuf> {
-    let folder = PathBuf::from(env!("CARGO_MANIFEST_DIR")).join("../../tests/original");
+    let folder = PathBuf::from(env!("CARGO_MANIFEST_DIR")).join("../../crates/replay/data");
     let files =
-        fs::read_dir(folder).expect("tests/original is there").map(|file| file.expect("a file").path());
+        fs::read_dir(folder).expect("crates/replay/data is there").map(|file| file.expect("a file").path());
     files.filter(|file| file.extension().is_some_and(|end| end == "txt")).collect()
 }
 

@@ -1,4 +1,4 @@
-//! The lists in tests/original: sequences for which the original's answers are kept.
+//! The lists in crates/replay/data: sequences for which the original's answers are kept.
 
 use std::collections::BTreeSet;
 

@@ -166,7 +166,7 @@ fn shown(line: &[u8], mut call: Call, out: &[u8]) -> Told {
 // A line of that kind, which tells of the call: `run` and `out` are what the library wrote. A refusal is told first, and
 // nothing is told before the first call, whose place a call of no kind takes.
 pub(crate) fn line(line: &[u8], kind: usize, call: Call, run: &[u8], out: &[u8]) -> Told {
-    if call.kind == kind::OTHER {
+    if (kind == kind::OTHER) | (call.kind == kind::OTHER) {
         return Told::Differs(Why::Form);
     }
     if kind == kind::NUMBER {
@@ -184,10 +184,7 @@ pub(crate) fn line(line: &[u8], kind: usize, call: Call, run: &[u8], out: &[u8])
     if kind == kind::WOKE {
         return woke(line, call);
     }
-    if kind == kind::UNSEEN {
-        return unseen(call);
-    }
-    Told::Differs(Why::Form)
+    unseen(call)
 }
 
 // A call of which all is told: what is not told is number 0, no more packets, wake mark 0 and nothing shown.

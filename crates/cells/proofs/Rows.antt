@@ -7,9 +7,10 @@ use lib.ListN.{length, replicate, length-replicate}
 use Rattle.octets.specs.Octets.{put, be}
 use Rattle.octets.specs.Numbers.{length-be}
 use Rattle.octets.specs.Written.{wrote, then}
-use Rattle.machine.specs.Limits.{cellBytes, largestPiece}
+use Rattle.machine.specs.Limits.{cellBytes}
 use Rattle.machine.specs.Layout.{cellOff, cellRow}
 use Rattle.machine.specs.Pieces.{newCell}
+use Rattle.packet.specs.Frame.{largestPiece}
 use Rattle.cells.specs.InPlace.{remarked, CellIn}
 
 -- zeros up to the largest piece are zeros up to a row's end

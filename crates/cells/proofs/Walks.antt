@@ -10,12 +10,13 @@ use borrow.Author.Tests.{eq-eqb, ne-eqb, le-leb, lt-leb}
 use Rattle.octets.specs.Octets.{part, put, num}
 use Rattle.octets.specs.Bools.{one}
 use Rattle.octets.specs.Parts.{put-nil, put-put, part-of}
-use Rattle.machine.specs.Limits.{largestPiece, cellBytes, mostCells}
+use Rattle.machine.specs.Limits.{cellBytes, mostCells}
 use Rattle.machine.specs.Values.{Cell}
 use Rattle.machine.specs.Counting.{occurs}
 use Rattle.machine.specs.Layout.{countAt, cellOff, readCell}
 use Rattle.machine.specs.Sound.{sizes}
 use Rattle.machine.specs.Pieces.{joined}
+use Rattle.packet.specs.Frame.{largestPiece}
 use Rattle.links.specs.Links.{Links}
 use Rattle.cells.specs.Read.{cell-in, sizeOf, piece-bytes, piece-size, cellsFrom, cells-end, cells-out, cells-more}
 use Rattle.cells.specs.InPlace.{pieceState, indexBehind, spotFrom}

@@ -11,7 +11,7 @@ use Rattle.octets.specs.Octets.{put, Bytes}
 use Rattle.octets.specs.Bools.{cases}
 use Rattle.octets.specs.Lists.{All, all-right}
 use Rattle.octets.specs.Parts.{getD-part}
-use Rattle.machine.specs.Limits.{recBytes, cellBytes, largestPiece, topOf}
+use Rattle.machine.specs.Limits.{recBytes, cellBytes, topOf}
 use Rattle.machine.specs.Codes.{roleReceive}
 use Rattle.machine.specs.Values.{Cell, Rec, Store, Key, sameKey}
 use Rattle.machine.specs.Chains.{first, chainRows}
@@ -22,6 +22,7 @@ use Rattle.machine.specs.Pieces.{newCell, pieceAt, rest}
 use Rattle.machine.specs.Receive.{recKey, found, replaced, withPiece, chunkAt, chunkStep}
 use Rattle.machine.specs.Calls.{cellsNeeded}
 use Rattle.machine.specs.Counting.{occurs}
+use Rattle.packet.specs.Frame.{largestPiece}
 use Rattle.laws.specs.Counting.{self, one-inside}
 use Rattle.laws.specs.Keys.{key-eq, key-refl}
 use Rattle.laws.specs.FreeRow.{free-map}

@@ -5,10 +5,11 @@ use mathlib.Core.List.{List, [], _∷_, _++_}
 use lib.ListN.{length, getD}
 use lib.Dec.{eqb, leb}
 use Rattle.octets.specs.Octets.{put, be}
-use Rattle.machine.specs.Limits.{recCount, cellBytes, mostCells, largestPiece}
+use Rattle.machine.specs.Limits.{recCount, cellBytes, mostCells}
 use Rattle.machine.specs.Values.{Cell}
 use Rattle.machine.specs.Layout.{countAt, freeCellsAt, firstCellAt, slotsAt, indexAt, stampAt, numberWidth, recOff, cellOff, cellRow}
 use Rattle.machine.specs.Pieces.{newCell}
+use Rattle.packet.specs.Frame.{largestPiece}
 
 -- ---- walks
 

@@ -8,10 +8,11 @@ use lib.ListN.{length, getD}
 use borrow.Author.Tests.{ne-eqb}
 use Rattle.octets.specs.Octets.{part, num}
 use Rattle.octets.specs.Parts.{getD-part, part-part, length-part}
-use Rattle.machine.specs.Limits.{largestPiece, cellBytes}
+use Rattle.machine.specs.Limits.{cellBytes}
 use Rattle.machine.specs.Values.{Cell}
 use Rattle.machine.specs.Chains.{link, walk}
 use Rattle.machine.specs.Layout.{countAt, sizeAt, pieceStateAt, bytesAt, sizeWidth, cellOff, cellAt, cellOf, readCell}
+use Rattle.packet.specs.Frame.{largestPiece}
 use Rattle.links.specs.Links.{Links}
 use Rattle.cells.specs.InPlace.{CellIn}
 

@@ -4,13 +4,14 @@ use native.Mathlib.Omega.{arith}
 use mathlib.Core.Path.{_≡_, refl, sym, subst}
 use mathlib.Core.List.{List, _∷_, _++_, map}
 use Rattle.octets.specs.Octets.{put, pow}
-use Rattle.machine.specs.Limits.{largestPiece, cellBytes, storeBytes}
+use Rattle.machine.specs.Limits.{cellBytes, storeBytes}
 use Rattle.machine.specs.Values.{Cell, Rec, Store}
 use Rattle.machine.specs.Chains.{first}
 use Rattle.machine.specs.Layout.{cellPlace, cellOff, cellRow}
 use Rattle.machine.specs.Sound.{AtMost, CellSized, Valid}
 use Rattle.machine.specs.Pieces.{newCell}
 use Rattle.machine.specs.Send.{withCells}
+use Rattle.packet.specs.Frame.{largestPiece}
 use Rattle.laws.specs.CellRow.{cell-length}
 use Rattle.laws.specs.Rep.{Rep}
 use Rattle.laws.specs.Write.{Wrote, write-row}

@@ -9,10 +9,10 @@ use rows::cell::cell_at;
 ghost use mathlib.Core.Path.{_≡_};
 ghost use Prim.Native.Nat.{_≤_};
 ghost use lib.ListN.{length};
-ghost use Rattle.machine.specs.Limits.{largestPiece};
 ghost use Rattle.machine.specs.Layout.{cellOff, cellRow};
 ghost use Rattle.machine.specs.Pieces.{newCell};
 ghost use Rattle.octets.specs.Octets.{put};
+ghost use Rattle.packet.specs.Frame.{largestPiece};
 ghost use Rattle.cells.specs.InPlace.{rewritten, remarked, CellIn};
 
 // A cell's whole row, with a piece that has just come; zeros past the piece.

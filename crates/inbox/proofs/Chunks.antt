@@ -11,8 +11,8 @@ use borrow.Author.Tests.{le-leb, lt-leb, leb-true, leb-false, ltb-true, ltb-fals
 use Rattle.octets.specs.Octets.{Bytes}
 use Rattle.octets.specs.Bools.{cases}
 use Rattle.octets.specs.Parts.{length-part-le}
-use Rattle.packet.specs.Frame.{idOf, chunkIndex, chunkOffset, chunkSize, piece}
-use Rattle.machine.specs.Limits.{leastPiece, largestPiece, topOf}
+use Rattle.packet.specs.Frame.{idOf, chunkIndex, chunkOffset, chunkSize, piece, largestPiece}
+use Rattle.machine.specs.Limits.{leastPiece, topOf}
 use Rattle.machine.specs.Codes.{roleReceive}
 use Rattle.machine.specs.Values.{Rec, Key}
 use Rattle.machine.specs.Layout.{heldAt, headOf, recOf, encode, decode}

@@ -9,11 +9,12 @@ use borrow.Author.Tests.{leb-true, le-leb}
 use Rattle.octets.specs.Octets.{part, be, num, pow, Bytes, zeros}
 use Rattle.octets.specs.Parts.{length-part, getD-part, part-add, part-part, bytes-part}
 use Rattle.octets.specs.Numbers.{length-be, bytes-be, num-be, be-part, num-lt}
-use Rattle.machine.specs.Limits.{cellBytes, largestPiece}
+use Rattle.machine.specs.Limits.{cellBytes}
 use Rattle.machine.specs.Values.{Cell}
 use Rattle.machine.specs.Rows.{join, pad, zeroFrom}
 use Rattle.machine.specs.Layout.{nextAt, indexAt, sizeAt, stampAt, pieceStateAt, gapAt, bytesAt, numberWidth, sizeWidth, gapWidth, cellFields, cellRow, numAt, cellOf}
 use Rattle.machine.specs.Sound.{cellTests, cellShape, CellSized}
+use Rattle.packet.specs.Frame.{largestPiece}
 use Rattle.laws.specs.Tests.{_&_, every-true, true-every}
 use Rattle.laws.specs.Fields.{Fit, width, start, length-join, field-at, join-cuts, gets-is, zeros-part, pad-row, pad-zero, length-pad, bytes-pad, bytes-join, bytes-of, bytes-cons, bytes-zeros}
 

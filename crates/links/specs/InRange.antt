@@ -8,12 +8,13 @@ use lib.ListN.{getD}
 use Rattle.octets.specs.Octets.{part, num, Bytes}
 use Rattle.octets.specs.Lists.{All, all-to, all-left, all-right}
 use Rattle.octets.specs.Parts.{getD-part, part-part}
-use Rattle.machine.specs.Limits.{recCount, recBytes, cellBytes, largestPiece}
+use Rattle.machine.specs.Limits.{recCount, recBytes, cellBytes}
 use Rattle.machine.specs.Codes.{heldKind, kindWhole}
 use Rattle.machine.specs.Values.{Cell, Rec, Store}
 use Rattle.machine.specs.Chains.{first}
 use Rattle.machine.specs.Layout.{freeAt, heldAt, wholeAt, freeCellsAt, countAt, nextAt, firstCellAt, sizeAt, sizeWidth, recOff, cellOff, cellPlace, recPlace, freeRow, recRow, cellRow, recRows, cellRows, recAt, cellAt, numAt, decode}
 use Rattle.machine.specs.Sound.{recPlaces, piecePlaces, cellPlaces, cellTests, sound, CellSized, RecSized, Valid}
+use Rattle.packet.specs.Frame.{largestPiece}
 use borrow.Author.Tests.{leb-true}
 use Rattle.laws.specs.Tests.{every-true}
 use Rattle.laws.specs.Counting.{few-inside}

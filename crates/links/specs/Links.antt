@@ -5,8 +5,9 @@ use mathlib.Core.Path.{_≡_}
 use mathlib.Core.List.{List}
 use lib.ListN.{length, getD}
 use Rattle.octets.specs.Octets.{part, num}
-use Rattle.machine.specs.Limits.{recCount, mostCells, storeBytes, largestPiece}
+use Rattle.machine.specs.Limits.{recCount, mostCells, storeBytes}
 use Rattle.machine.specs.Layout.{freeAt, heldAt, wholeAt, freeCellsAt, countAt, firstCellAt, sizeAt, sizeWidth, recOff, cellOff}
+use Rattle.packet.specs.Frame.{largestPiece}
 
 -- C, as the head says
 abbrev pub count : List ℕ → ℕ

@@ -31,13 +31,18 @@ use Rattle.machine.specs.Outcomes.{SetupOutcome, PacketOutcome, SendOutc
 abbrev pub yes : ℕ → Bool
 yes n = not (eqb n 0)
 
--- row 8: no record of the needed kind
+-- row 8: no record of the needed kind; what follows is asked of the record
+abbrev pub asksOf : Option Rec → (Rec → Refusals) → Refusals
+asksOf none tests = (false, 8) ∷ []
+asksOf (some r) tests = tests r
+
+-- .. nothing more
 abbrev pub heldRow : Option Rec → Refusals
-heldRow none = (false, 8) ∷ []
-heldRow (some r) = []
+heldRow o = asksOf o (λ r. [])
 
 -- ---- setup
 
+-- setup 25
 unfoldable pub setupOf : List ℕ → ℕ → SetupOutcome
 setupOf store role =
     cond (allowed (length store) role)
@@ -90,7 +95,7 @@ initRow p s =
     ∷ (isSome (found (asked p) (s .held)) || ltb 0 (length (s .free)), 7)
     ∷ []
 
--- row 11: "size below 250, index not top"
+-- row 11: "size below 250, index not top"; it is handed the offset too, by which a last piece may be told
 unfoldable pub tooShort : ℕ → ℕ → ℕ → ℕ → Bool
 tooShort total index offset size = ltb size leastPiece && not (eqb index (topOf total))
 
@@ -100,34 +105,46 @@ cellsNeeded index r = cond (isSome (pieceAt index (r .cells))) 0 1
 
 -- chunk 8, 9, 10, 11, 12
 abbrev pub chunkRow : ℕ → ℕ → ℕ → Store → Option Rec → Refusals
-chunkRow index offset size s none = (false, 8) ∷ []
-chunkRow index offset size s (some r) =
+chunkRow index offset size s o =
+    asksOf o
+    (λ r.
     (leb (offset + size) (r .head .total), 9)
     ∷ (leb index (topOf (r .head .total)), 10)
     ∷ (not (tooShort (r .head .total) index offset size), 11)
     ∷ (leb (cellsNeeded index r) (length (s .freeCells)), 12)
-    ∷ []
+    ∷ [])
 
 -- done 8, 13 to 17; indices rise below slots, so every one below slots has a piece where there are as many as slots (row 14)
 abbrev pub doneRow : ℕ → List ℕ → Bool → Option Rec → Refusals
-doneRow count sum known none = (false, 8) ∷ []
-doneRow count sum known (some r) =
+doneRow count sum known o =
+    asksOf o
+    (λ r.
     (eqb count (r .slots), 13)
     ∷ (eqb (length (r .cells)) (r .slots), 14)
     ∷ (eqb (sizes (r .cells)) (r .head .total), 15)
     ∷ (same sum (blake3 (joined (r .cells))), 16)
     ∷ (known, 17)
-    ∷ []
+    ∷ [])
 
 -- "the rest 8, 18, 19": the state that an acknowledgement or a read needs
 abbrev pub stateRow : ℕ → Option Rec → Refusals
-stateRow state none = (false, 8) ∷ []
-stateRow state (some r) = (eqb (r .sending .state) state, 18) ∷ []
+stateRow state o = asksOf o (λ r. (eqb (r .sending .state) state, 18) ∷ [])
 
 -- .. and, of a chunk, an index below the number of pieces (row 19)
 abbrev pub ackChunkRow : ℕ → Option Rec → Refusals
-ackChunkRow index none = (false, 8) ∷ []
-ackChunkRow index (some r) = (eqb (r .sending .state) stateInProgress, 18) ∷ (ltb index (length (r .cells)), 19) ∷ []
+ackChunkRow index o = asksOf o (λ r. (eqb (r .sending .state) stateInProgress, 18) ∷ (ltb index (length (r .cells)), 19) ∷ [])
+
+-- row 20: some kind fits
+abbrev pub isKind : Kind → Bool
+isKind Init = true
+isKind Chunk = true
+isKind Done = true
+isKind Read = true
+isKind Aborted = true
+isKind AckInit = true
+isKind AckChunk = true
+isKind AckDone = true
+isKind Nothing = false
 
 -- the refusals of a kind, on the two stores
 unfoldable pub kindRow : Kind → Packet → Store → Store → Refusals
@@ -139,7 +156,7 @@ kindRow Aborted p recv send = heldRow (found (asked p) (recv .held))
 kindRow AckInit p recv send = stateRow stateInit (found (asked p) (send .held))
 kindRow AckChunk p recv send = ackChunkRow (chunkIndex (p .frame)) (found (asked p) (send .held))
 kindRow AckDone p recv send = stateRow stateInProgress (found (asked p) (send .held))
-kindRow Nothing p recv send = (false, 20) ∷ []
+kindRow Nothing p recv send = (isKind Nothing, 20) ∷ []
 
 -- what a kind makes of the receive store
 unfoldable pub recvStep : Kind → Packet → Store → Store
@@ -192,18 +209,6 @@ kindWake AckInit = 1
 kindWake AckChunk = 1
 kindWake AckDone = 0
 kindWake Nothing = 0
-
--- row 20: some kind fits
-abbrev pub isKind : Kind → Bool
-isKind Init = true
-isKind Chunk = true
-isKind Done = true
-isKind Read = true
-isKind Aborted = true
-isKind AckInit = true
-isKind AckChunk = true
-isKind AckDone = true
-isKind Nothing = false
 
 -- row 2: a packet's run buffer
 abbrev pub packetRoom : ℕ

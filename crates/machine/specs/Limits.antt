@@ -1,4 +1,5 @@
--- The numbers of document 01, each once and by name, and what a message's length decides: its slots and its top index.
+-- The limits of messages and stores, each once and by name, and what a message's length decides: its slots and its top index. Those of a call's
+-- buffers stand in Calls, that of a piece in packet's Frame.
 use Prim.Native.Nat.{ℕ, suc, _+_, _*_, _-_, _/_, max}
 use mathlib.Core.Bool.{cond}
 use lib.Dec.{eqb}
@@ -18,10 +19,6 @@ cutBy = 1300
 -- row 11: a piece below 250 is short
 abbrev pub leastPiece : ℕ
 leastPiece = 250
-
--- Packets: piece size is the smaller of the field and 1,364
-abbrev pub largestPiece : ℕ
-largestPiece = 1364
 
 -- Stores: 16 + 8 × 328 + 1,380 × C bytes, C from 1 to 45
 abbrev pub headBytes : ℕ

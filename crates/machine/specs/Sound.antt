@@ -9,7 +9,8 @@ use lib.ListN.{length, getD}
 use lib.Dec.{eqb, leb, ltb}
 use Rattle.octets.specs.Octets.{part, pow, Bytes, zeros}
 use Rattle.octets.specs.Lists.{all, All}
-use Rattle.machine.specs.Limits.{longest, largestTopic, cutBy, largestPiece, headBytes, recCount, recBytes, cellBytes, mostCells, storeBytes, slotsOf, mostSlots}
+use Rattle.packet.specs.Frame.{largestPiece}
+use Rattle.machine.specs.Limits.{longest, largestTopic, cutBy, headBytes, recCount, recBytes, cellBytes, mostCells, storeBytes, slotsOf, mostSlots}
 use Rattle.machine.specs.Codes.{roleReceive, kindArriving, kindWhole, kindLeaving, heldKind, stateAborted, pieceSent, pieceAcked, isRole}
 use Rattle.machine.specs.Values.{Head, Cell, Sending, Rec, Store, keyOf, sameKey}
 use Rattle.machine.specs.Tests.{every}
@@ -142,13 +143,13 @@ abbrev pub soundTests : ℕ → List ℕ → Store → List Bool
 soundTests role b s =
     -- store length agrees with C, role is that of the call's place
     every (headTests role b s)
-    -- fields in range (kinds 1 and 2 only in role 1, 3 only in role 2); indices, slots and pieces
+    -- fields in range; indices, slots and pieces; whole records only in role 1
     ∷ all (recFits role (heldKind role)) (s .held) ∷ all (recFits role kindWhole) (s .whole) ∷ (eqb role roleReceive || noRec (s .whole))
     -- each record and cell in the one chain its kind names; free and held cells add to C
     ∷ once recCount (recPlaces s) ∷ once (s .setup .cells) (cellPlaces s)
     -- ids unique
     ∷ distinct (s .held ++ s .whole)
-    -- free ones zero but for next, and the other zeros of the layout
+    -- a record's kind is its chain's, sizes to 1,364; free ones zero but for next, and the other zeros of the layout
     ∷ every (shapeTests role b s) ∷ []
 
 -- row 25: bytes are sound, as a store of a role

@@ -70,8 +70,11 @@ abbrev pub chunkOffset : List ℕ → ℕ
 chunkOffset f = num 8 (part f 20 8)
 
 -- "Piece size is the smaller of the field and 1,364"
+abbrev pub largestPiece : ℕ
+largestPiece = 1364
+
 abbrev pub chunkSize : List ℕ → ℕ
-chunkSize f = min (num 8 (part f 28 8)) 1364
+chunkSize f = min (num 8 (part f 28 8)) largestPiece
 
 abbrev pub piece : List ℕ → List ℕ
 piece f = part f 36 (chunkSize f)

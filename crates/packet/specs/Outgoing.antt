@@ -49,7 +49,7 @@ chunkReply = 36
 abbrev pub doneReply : ℕ
 doneReply = 52
 
--- what a writer asks: an id of 8 bytes, addresses of 16, and room for a packet of n bytes behind its count and addresses
+-- what a writer asks: addresses of 16 bytes, and room for a packet of n bytes behind its count and addresses
 pub record Room (run : List ℕ) (at : ℕ) (from to : List ℕ) (n : ℕ) : Type 0 where
   pub source : length from ≡ 16
   pub target : length to ≡ 16

@@ -4,7 +4,7 @@ ghost use mathlib.Core.Path.{_≡_};
 ghost use Prim.Native.Nat.{_+_, _≤_};
 ghost use lib.ListN.{length};
 ghost use Rattle.octets.specs.Octets.{put};
-ghost use Rattle.packet.specs.Frame.{chunkIndex, chunkOffset, chunkSize, piece};
+ghost use Rattle.packet.specs.Frame.{chunkIndex, chunkOffset, chunkSize, piece, largestPiece};
 ghost use Rattle.packet.specs.Outgoing.{chunkPacket};
 
 pub struct MessageChunk {}
@@ -39,7 +39,7 @@ impl MessageChunk {
     // The size of the piece: the field, or what fits into a frame if that is less.
     pub fn size(frame: &[u8]) -> usize
         requires { ⌜ 36 ≤ length (now frame) ⌝ }
-        ensures { λ r. ⌜ (r ≡ chunkSize (now (frame .entry))) × (r ≤ 1364) ⌝ }
+        ensures { λ r. ⌜ (r ≡ chunkSize (now (frame .entry))) × (r ≤ largestPiece) ⌝ }
     {
         let n = octets::get64(frame, Self::LENGTH);
         if n < Self::LARGEST {

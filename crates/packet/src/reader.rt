@@ -4,7 +4,7 @@
 ghost use mathlib.Core.Path.{_≡_};
 ghost use Prim.Native.Nat.{_≤_};
 ghost use lib.ListN.{length};
-ghost use Rattle.packet.specs.Frame.{idOf, flagsOf, initLength, initTopic, chunkIndex, chunkOffset, chunkSize, piece, doneCount, doneSum};
+ghost use Rattle.packet.specs.Frame.{idOf, flagsOf, initLength, initTopic, chunkIndex, chunkOffset, chunkSize, piece, doneCount, doneSum, largestPiece};
 
 pub struct Frame<'a> {
     pub bytes: &'a [u8],
@@ -69,7 +69,7 @@ impl<'a> Frame<'a> {
     // The size of a chunk's piece, at most what fits into a frame.
     pub fn size(self) -> usize
         requires { ⌜ 36 ≤ length (now (self .bytes)) ⌝ }
-        ensures { λ r. ⌜ (r ≡ chunkSize (now (self .entry .bytes))) × (r ≤ 1364) ⌝ }
+        ensures { λ r. ⌜ (r ≡ chunkSize (now (self .entry .bytes))) × (r ≤ largestPiece) ⌝ }
     {
         crate::chunk::MessageChunk::size(self.bytes)
     }
@@ -150,7 +150,7 @@ pub fn offset(frame: &[u8]) -> u64
 // The size of a chunk's piece, at most what fits into a frame.
 pub fn size(frame: &[u8]) -> usize
     requires { ⌜ 36 ≤ length (now frame) ⌝ }
-    ensures { λ r. ⌜ (r ≡ chunkSize (now (frame .entry))) × (r ≤ 1364) ⌝ }
+    ensures { λ r. ⌜ (r ≡ chunkSize (now (frame .entry))) × (r ≤ largestPiece) ⌝ }
 {
     new(frame).size()
 }

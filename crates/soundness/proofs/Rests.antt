@@ -12,13 +12,14 @@ use borrow.Author.Tests.{le-leb, lt-leb, lt-ltb, le-ltb, leb-true}
 use Rattle.octets.specs.Bools.{split}
 use Rattle.octets.specs.Lists.{all}
 use Rattle.octets.specs.Parts.{length-part, part-of, part-part}
-use Rattle.machine.specs.Limits.{recBytes, cellBytes, largestPiece, cutBy}
+use Rattle.machine.specs.Limits.{recBytes, cellBytes, cutBy}
 use Rattle.machine.specs.Values.{Cell, sameKey}
 use Rattle.machine.specs.Counting.{inside}
 use Rattle.machine.specs.Chains.{link, walk}
 use Rattle.machine.specs.Layout.{idAt, idWidth, nextAt, indexAt, sizeAt, bytesAt, sizeWidth, recOff, cellOff, firstCellAt, slotsAt, totalAt, numberWidth, recAt, cellAt, numAt, cellOf, readCell, readCells, cellChain}
 use Rattle.machine.specs.Sound.{rising, sizes, isCut}
 use Rattle.octets.specs.Octets.{part}
+use Rattle.packet.specs.Frame.{largestPiece}
 use Rattle.laws.specs.Tests.{all-parts}
 use Rattle.laws.specs.Counting.{inside-is}
 use Rattle.laws.specs.Marks.{Walked, scan, pick, scan-append}

@@ -9,7 +9,7 @@ use lib.Dec.{eqb, leb}
 use borrow.Author.Tests.{eqb-true}
 use Rattle.octets.specs.Bools.{cases, clash, split, both, iff}
 use Rattle.octets.specs.Lists.{all, all-true, true-all, all-to, all-zip, all-map, map-all}
-use Rattle.machine.specs.Limits.{recCount, recBytes, cellBytes, mostCells, storeBytes, largestPiece}
+use Rattle.machine.specs.Limits.{recCount, recBytes, cellBytes, mostCells, storeBytes}
 use Rattle.machine.specs.Codes.{roleReceive, heldKind, kindArriving, kindWhole, kindLeaving}
 use Rattle.machine.specs.Values.{Rec, keyOf, sameKey}
 use Rattle.machine.specs.Tests.{every}
@@ -17,6 +17,7 @@ use Rattle.machine.specs.Chains.{walk}
 use Rattle.machine.specs.Counting.{inside, each, once}
 use Rattle.machine.specs.Layout.{freeAt, heldAt, wholeAt, freeCellsAt, countAt, slotsAt, sizeAt, sizeWidth, cellPlace, recPlace, recRow, cellRow, recAt, cellAt, numAt, cellOf, recOf, headOf, sendingOf, recChain, cellChain, readCell, readCells, readRec, decode}
 use Rattle.machine.specs.Sound.{headTests, cellFits, recTests, recFits, noRec, distinct, recPlaces, piecePlaces, recShape, cellTests, cellShape, freeShape, shapeTests, soundTests, sound, rising}
+use Rattle.packet.specs.Frame.{largestPiece}
 use Rattle.laws.specs.Tests.{_&_, every-true, true-every, all-parts, all-append}
 use Rattle.laws.specs.Counting.{inside-is}
 use Rattle.laws.specs.Chains.{map-place}

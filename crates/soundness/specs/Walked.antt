@@ -8,7 +8,7 @@ use lib.ListN.{length, getD, replicate}
 use lib.Dec.{eqb, leb, ltb}
 use Rattle.octets.specs.Octets.{part}
 use Rattle.octets.specs.Lists.{all}
-use Rattle.machine.specs.Limits.{headBytes, recCount, recBytes, cellBytes, mostCells, storeBytes, largestPiece, cutBy}
+use Rattle.machine.specs.Limits.{headBytes, recCount, recBytes, cellBytes, mostCells, storeBytes, cutBy}
 use Rattle.machine.specs.Codes.{heldKind, kindArriving, kindWhole, kindLeaving}
 use Rattle.machine.specs.Values.{Cell, Key, keyOf, sameKey}
 use Rattle.machine.specs.Rows.{rowOff}
@@ -16,6 +16,7 @@ use Rattle.machine.specs.Chains.{link, walk}
 use Rattle.machine.specs.Counting.{inside}
 use Rattle.machine.specs.Layout.{freeAt, heldAt, wholeAt, freeCellsAt, firstCellAt, slotsAt, totalAt, sizeAt, sizeWidth, numberWidth, recAt, cellAt, numAt, headOf, recChain, cellChain, readCells}
 use Rattle.machine.specs.Sound.{rising, sizes, isCut}
+use Rattle.packet.specs.Frame.{largestPiece}
 use Rattle.laws.specs.Marks.{Walked, scan, three}
 use Rattle.rows.specs.declared.Holds.{Holds}
 use Rattle.rows.specs.declared.Holds.the-variants.{Free, Record, Piece}

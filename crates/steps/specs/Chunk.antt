@@ -8,7 +8,7 @@ use mathlib.Core.Option.{some}
 use lib.ListN.{length}
 use Rattle.octets.specs.Octets.{pow}
 use Rattle.octets.specs.Bools.{cases}
-use Rattle.machine.specs.Limits.{largestPiece, topOf}
+use Rattle.machine.specs.Limits.{topOf}
 use Rattle.machine.specs.Codes.{roleReceive, kindArriving}
 use Rattle.machine.specs.Values.{Cell, Rec, Store, Key}
 use Rattle.machine.specs.Chains.{first}
@@ -18,6 +18,7 @@ use Rattle.machine.specs.Find.{isSome}
 use Rattle.machine.specs.Pieces.{pieceAt}
 use Rattle.machine.specs.Receive.{found, withPiece, cellsLeft, chunkAt}
 use Rattle.machine.specs.Calls.{cellsNeeded}
+use Rattle.packet.specs.Frame.{largestPiece}
 use Rattle.laws.specs.Fine.{Fine, fine-fits}
 use Rattle.steps.specs.Find.{is-none}
 use Rattle.steps.specs.Pieces.{rising-put, rising-wider, all-put, occurs-put-new, places-put-held}

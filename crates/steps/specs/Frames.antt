@@ -6,8 +6,8 @@ use lib.ListN.{length}
 use Rattle.octets.specs.Octets.{part, Bytes}
 use Rattle.octets.specs.Parts.{length-part, length-part-le, bytes-part}
 use Rattle.octets.specs.Numbers.{num-lt}
-use Rattle.packet.specs.Frame.{piece}
-use Rattle.machine.specs.Limits.{largestTopic, largestPiece}
+use Rattle.packet.specs.Frame.{piece, largestPiece}
+use Rattle.machine.specs.Limits.{largestTopic}
 use Rattle.machine.specs.Layout.{idWidth}
 use Rattle.machine.specs.Sound.{AtMost, HeadSized}
 use Rattle.machine.specs.Calls.{Packet, initHead}

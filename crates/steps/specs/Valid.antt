@@ -11,8 +11,8 @@ use borrow.Author.Tests.{leb-true, not-true}
 use Rattle.octets.specs.Bools.{one-le, both}
 use Rattle.packet.specs.declared.header.Kind.{Kind}
 use Rattle.packet.specs.declared.header.Kind.the-variants.{Init, Chunk, Done, Read, Aborted, AckInit, AckChunk, AckDone, Nothing}
-use Rattle.packet.specs.Frame.{initLength, chunkIndex, chunkOffset, chunkSize, piece, doneCount, doneSum}
-use Rattle.machine.specs.Limits.{longest, largestPiece, topOf}
+use Rattle.packet.specs.Frame.{initLength, chunkIndex, chunkOffset, chunkSize, piece, doneCount, doneSum, largestPiece}
+use Rattle.machine.specs.Limits.{longest, topOf}
 use Rattle.machine.specs.Codes.{roleReceive}
 use Rattle.machine.specs.Values.{Rec, Store, Key}
 use Rattle.machine.specs.Sound.{sizes, AtMost, Valid}

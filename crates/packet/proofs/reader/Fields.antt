@@ -2,7 +2,7 @@
 use mathlib.Core.Path.{_≡_}
 use Prim.Native.Nat.{_≤_}
 use mir.Syntax.{w8, w64}
-use Rattle.packet.specs.Frame.{idOf, flagsOf, initLength, initTopic, chunkIndex, chunkOffset, chunkSize, doneCount, doneSum}
+use Rattle.packet.specs.Frame.{idOf, flagsOf, initLength, initTopic, chunkIndex, chunkOffset, chunkSize, doneCount, doneSum, largestPiece}
 use Rattle.packet.specs.Frame as frame
 use Rattle.packet.proofs.reader.Field.{Field, number, part}
 
@@ -25,7 +25,7 @@ abbrev pub offset : Field
 offset = number w64 28 (λ s r. r ≡ chunkOffset s)
 
 abbrev pub size : Field
-size = number w64 36 (λ s r. (r ≡ chunkSize s) × (r ≤ 1364))
+size = number w64 36 (λ s r. (r ≡ chunkSize s) × (r ≤ largestPiece))
 
 abbrev pub piece : Field
 piece = part 1400 frame.piece

@@ -7,7 +7,7 @@
 
 #include "socketlemon.h"
 
-enum { REFUSALS = 25 };
+enum { REFUSALS = 25, RECORD = 328 };
 
 typedef struct {
     uint8_t *at, *was;
@@ -29,8 +29,8 @@ static size_t below(size_t n) { return (size_t)(next() % n); }
 
 /* A buffer of exactly that length, so that a tool sees every step outside. */
 static buffer make(size_t len) {
-    buffer b = {malloc(len ? len : 1), malloc(len ? len : 1), len};
-    if (!b.at || !b.was) abort();
+    buffer b = {malloc(len), malloc(len), len};
+    if (len && (!b.at || !b.was)) abort();
     for (size_t i = 0; i < len; i++) b.at[i] = (uint8_t)next();
     return b;
 }
@@ -40,7 +40,10 @@ static void drop(buffer b) {
     free(b.was);
 }
 
-static void keep(buffer b) { memcpy(b.was, b.at, b.len); }
+static void keep(buffer b) {
+    if (b.len) memcpy(b.was, b.at, b.len);
+}
+
 static int same_from(buffer b, size_t from) { return from >= b.len || memcmp(b.at + from, b.was + from, b.len - from) == 0; }
 
 static void expect(const char *what, int right) {
@@ -135,6 +138,13 @@ static void carry(buffer *stores, const uint8_t *run, size_t len) {
     }
 }
 
+/* What a take that was answered 0 has written: the record, and as many bytes as its length says. */
+static size_t taken_size(buffer data) {
+    size_t total = 0;
+    for (size_t i = 48; i < 56; i++) total = total * 256 + data.at[i];
+    return RECORD + total;
+}
+
 static void one_call(buffer *stores) {
     buffer send = stores[1], run = {0}, data = {0};
     pick_id(id);
@@ -165,11 +175,11 @@ static void one_call(buffer *stores) {
         break;
     }
     case 3: {
-        run = make(around(SOCKETLEMON_TAKE_RUN, 60)), data = make(around(SOCKETLEMON_TAKE_DATA, 33000));
+        run = make(around(SOCKETLEMON_TAKE_RUN, 60)), data = make(around(SOCKETLEMON_TAKE_DATA + below(3), 33000));
         keep(run), keep(stores[0]), keep(data);
         socketlemon_answer a = socketlemon_take(stores[0].at, stores[0].len, data.at, data.len, run.at, run.len);
         answer("take", a, run, 1, stores);
-        expect("take's data", same_from(data, a.number ? 0 : SOCKETLEMON_TAKE_DATA));
+        expect("take's data", same_from(data, a.number ? 0 : taken_size(data)));
         break;
     }
     case 4: {
@@ -177,7 +187,7 @@ static void one_call(buffer *stores) {
         run = make(around(SOCKETLEMON_ADDRESS, 20));
         keep(run);
         socketlemon_answer a = socketlemon_address(key.at, key.len, run.at, run.len);
-        expect("address", known(a.number) && a.number <= 2 && same_from(run, a.number ? 0 : SOCKETLEMON_ADDRESS));
+        expect("address", known(a.number) && a.number <= 2 && a.run == 0 && a.wake == 0 && same_from(run, a.number ? 0 : SOCKETLEMON_ADDRESS));
         drop(key);
         break;
     }
@@ -190,9 +200,11 @@ static void sequence(void) {
     size_t cells = 1 + below(45);
     buffer stores[2] = {make(SOCKETLEMON_STORE_BYTES(cells)), make(SOCKETLEMON_STORE_BYTES(1 + below(45)))};
     for (int i = 0; i < 2; i++) {
+        size_t less = below(10) == 0;
+        uint64_t role = below(10) ? 1 + (uint64_t)i : 3;
         keep(stores[i]);
-        socketlemon_answer a = socketlemon_setup(stores[i].at, stores[i].len - (below(10) == 0), 1 + (uint64_t)i);
-        expect("setup", known(a.number) && (a.number == 0 || (a.number == 25 && same_from(stores[i], 0))));
+        socketlemon_answer a = socketlemon_setup(stores[i].at, stores[i].len - less, role);
+        expect("setup", known(a.number) && a.run == 0 && a.wake == 0 && (less || role == 3 ? a.number == 25 && same_from(stores[i], 0) : a.number == 0));
         if (a.number != 0) socketlemon_setup(stores[i].at, stores[i].len, 1 + (uint64_t)i);
     }
     for (size_t calls = below(120); calls > 0; calls--) one_call(stores);

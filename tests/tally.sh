@@ -1,3 +1,4 @@
+# shellcheck shell=bash
 # Sourced by the test scripts: a tally of what passed and what failed. Each script ends with `finish`, so that its last line is 'N passed, M failed'.
 passed=0
 failed=0

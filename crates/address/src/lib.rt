@@ -16,14 +16,14 @@ pub fn address(key: &[u8], out: &mut [u8]) -> u64
     ensures { λ r. ⌜ (record { number = r; out = now (out .exit) }) ≡ addressOf (now (key .entry)) (now (out .entry)) ⌝ }
 {
     if key.len() != 32 {
-        return 1;
+        return answer::BAD_FRAME;
     }
     if out.len() < 16 {
-        return 2;
+        return answer::SHORT_OUTPUT;
     }
     let sum = blake3::hash(key);
     let first = [first_byte(sum[0])];
     octets::copy_in(out, 0, &first);
     octets::copy_in(out, 1, &sum[1..16]);
-    0
+    answer::DONE
 }

@@ -42,14 +42,19 @@ fn join(a: u32, b: u32, c: u32, d: u32) -> u32
     a + 0x100 * b + 0x1_0000 * c + 0x100_0000 * d
 }
 
-// The word at p.
+// The word at p, which lies in s.
+fn word_in(s: &[u8], p: usize) -> u32
+    requires { ⌜ p + 4 ≤ length (now s) ⌝ }
+    ensures { λ r. ⌜ r ≡ wordAt (now (s .entry)) p ⌝ }
+{
+    join(wide(s[p]), wide(s[p + 1]), wide(s[p + 2]), wide(s[p + 3]))
+}
+
+// The word at p, with 0 for bytes past the end.
 fn word_at(s: &[u8], p: usize) -> u32
     requires { ⌜ p < 2048 ⌝ }
     ensures { λ r. ⌜ r ≡ wordAt (now (s .entry)) p ⌝ }
 {
-    if p + 4 <= s.len() {
-        return join(wide(s[p]), wide(s[p + 1]), wide(s[p + 2]), wide(s[p + 3]));
-    }
     join(
         byte_at(s, p),
         byte_at(s, p + 1),
@@ -58,11 +63,28 @@ fn word_at(s: &[u8], p: usize) -> u32
     )
 }
 
+// The sixteen words of block i, which lies in s. With no test in it, the loop is compiled to four vector loads.
+fn whole_block(s: &[u8], i: usize) -> [u32; 16]
+    requires { ⌜ 64 * i + 64 ≤ length (now s) ⌝ }
+    ensures { λ r. ⌜ r ≡ blockAt (now (s .entry)) i ⌝ }
+{
+    let mut m = [0u32; 16];
+    let mut k: usize = 0;
+    while k < 16 {
+        m[k] = word_in(s, BLOCK * i + 4 * k);
+        k += 1;
+    }
+    m
+}
+
 // The sixteen words of block i.
 fn block_at(s: &[u8], i: usize) -> [u32; 16]
     requires { ⌜ i ≤ 16 ⌝ }
     ensures { λ r. ⌜ r ≡ blockAt (now (s .entry)) i ⌝ }
 {
+    if BLOCK * i + BLOCK <= s.len() {
+        return whole_block(s, i);
+    }
     let mut m = [0u32; 16];
     let mut k: usize = 0;
     while k < 16 {

@@ -1,7 +1,10 @@
 // What a packet does, by its kind: to the two stores, and the reply that it gets.
 
+use packet::chunk::MessageChunk;
+use packet::done::MessageDone;
 use packet::header;
 use packet::header::Kind;
+use packet::init::MessageInit;
 use packet::reader;
 use packet::run;
 use rows::record;
@@ -14,12 +17,12 @@ ghost use Rattle.machine.specs.Calls.{frameBytes, packetRoom, isKind, kindWake,
 ghost use Rattle.store.specs.HeldAt.{Receives, Sends};
 ghost use Rattle.message.specs.Both.{both, replyBytes, replyOut};
 
-// The bytes of the frame that each reply keeps.
-const INIT_REPLY: usize = 21;
+// The bytes of the frame that each reply keeps: up to an init's topic, up to a chunk's piece, all of a done.
+const INIT_REPLY: usize = MessageInit::TOPIC;
 
-const CHUNK_REPLY: usize = 36;
+const CHUNK_REPLY: usize = MessageChunk::PIECE;
 
-pub const DONE_REPLY: usize = 52;
+pub const DONE_REPLY: usize = MessageDone::SIZE;
 
 // The kind of the packet in a frame.
 fn kind_in(frame: &[u8]) -> Kind

@@ -35,7 +35,7 @@ fn put_done(store: &[u8], link: usize, out: &mut [u8]) -> usize
         field::slots(store, link),
         &sum,
     );
-    run::PACKET + MessageDone::SUM + MessageDone::SUM_SIZE
+    run::PACKET + MessageDone::SIZE
 }
 
 // The done is sent. The record stays as it is: its state changes when the done is acknowledged.

@@ -6,6 +6,8 @@ use crate::due::send_due;
 use crate::init::put_init;
 use crate::record::names_at;
 use answer::Answer;
+use packet::header;
+use packet::run;
 use rows::record::IN_PROGRESS;
 use rows::record::INIT;
 use store::field;
@@ -35,7 +37,7 @@ const DEADLINE: u64 = 2;
 // What the run of a send wake takes at most, and that of a deadline wake.
 const SEND_ROOM: usize = 34250;
 
-const DEADLINE_ROOM: usize = 46;
+const DEADLINE_ROOM: usize = run::PACKET + header::SIZE;
 
 // A record in progress: its due pieces are sent, or the done once every piece is acknowledged; answers where the run ends.
 fn progress(store: &mut [u8], link: usize, clock: u64, out: &mut [u8]) -> usize

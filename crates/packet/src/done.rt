@@ -16,6 +16,8 @@ impl MessageDone {
 
     pub const SUM_SIZE: usize = 32;
 
+    pub const SIZE: usize = Self::SUM + Self::SUM_SIZE;
+
     // The number of pieces.
     pub fn count(frame: &[u8]) -> u64
         requires { ⌜ 20 ≤ length (now frame) ⌝ }

@@ -1,5 +1,9 @@
 // A run: outgoing packets, each behind its byte count, its from-address and its to-address. Bytes past what is written stay.
-
+use crate::chunk::MessageChunk;
+use crate::done::MessageDone;
+use crate::header::FLAGS;
+use crate::header::REST;
+use crate::init::MessageInit;
 ghost use mathlib.Core.Path.{_≡_};
 ghost use mathlib.Core.List.{_++_};
 ghost use Prim.Native.Nat.{_+_, _<_, _≤_};
@@ -39,8 +43,8 @@ pub fn put_init(
     requires { ⌜ (length (now id) ≡ 8) × (length (now topic) < 256) ⌝ }
     ensures { λ _. ⌜ now (run .exit) ≡ put (now (run .entry)) a (entry (now (from .entry)) (now (to .entry)) (initPacket (now (id .entry)) reply size (now (topic .entry)))) ⌝ }
 {
-    put_front(run, a, from, to, 21 + topic.len());
-    crate::init::MessageInit::put(run, a + PACKET, id, reply, size, topic);
+    put_front(run, a, from, to, MessageInit::TOPIC + topic.len());
+    MessageInit::put(run, a + PACKET, id, reply, size, topic);
 }
 
 // The entry of a chunk.
@@ -58,8 +62,8 @@ pub fn put_chunk(
     requires { ⌜ length (now id) ≡ 8 ⌝ }
     ensures { λ _. ⌜ now (run .exit) ≡ put (now (run .entry)) a (entry (now (from .entry)) (now (to .entry)) (chunkPacket (now (id .entry)) index offset (now (piece .entry)))) ⌝ }
 {
-    put_front(run, a, from, to, 36 + piece.len());
-    crate::chunk::MessageChunk::put(run, a + PACKET, id, index, offset, piece);
+    put_front(run, a, from, to, MessageChunk::PIECE + piece.len());
+    MessageChunk::put(run, a + PACKET, id, index, offset, piece);
 }
 
 // The entry of a done.
@@ -68,8 +72,8 @@ pub fn put_done(run: &mut [u8], a: usize, from: &[u8], to: &[u8], id: &[u8], cou
     requires { ⌜ (length (now id) ≡ 8) × (length (now sum) ≡ 32) ⌝ }
     ensures { λ _. ⌜ now (run .exit) ≡ put (now (run .entry)) a (entry (now (from .entry)) (now (to .entry)) (donePacket (now (id .entry)) count (now (sum .entry)))) ⌝ }
 {
-    put_front(run, a, from, to, 52);
-    crate::done::MessageDone::put(run, a + PACKET, id, count, sum);
+    put_front(run, a, from, to, MessageDone::SIZE);
+    MessageDone::put(run, a + PACKET, id, count, sum);
 }
 
 // The entry of a packet that is a header alone: aborted and read.
@@ -90,7 +94,7 @@ pub fn put_reply(run: &mut [u8], a: usize, from: &[u8], to: &[u8], frame: &[u8],
 {
     put_front(run, a, from, to, n);
     let flags = [crate::header::flags(frame) | crate::header::FLAG_ACK];
-    octets::copy_in(run, a + PACKET, &frame[0..8]);
-    octets::copy_in(run, a + PACKET + 8, &flags);
-    octets::copy_in(run, a + PACKET + 9, &frame[9..n]);
+    octets::copy_in(run, a + PACKET, &frame[0..FLAGS]);
+    octets::copy_in(run, a + PACKET + FLAGS, &flags);
+    octets::copy_in(run, a + PACKET + REST, &frame[REST..n]);
 }

@@ -45,7 +45,7 @@ pub fn marked(
     role: u64,
     holds: rows::Holds,
     first: usize,
-    marks: &mut [u8; 46],
+    marks: &mut [u8; rows::cell::STEPS],
 ) -> bool
     requires { ⌜ Fitting t holds (now s) ⌝ }
     ensures { λ r. ⌜ record { ok = r; marks = now (marks .exit) } ≡ chainMarked t role holds (now (s .entry)) first (now (marks .entry)) ⌝ }
@@ -80,7 +80,7 @@ pub fn marked(
 }
 
 // Whether the places from 1 to n are all marked.
-pub fn all_marked(marks: &[u8; 46], n: usize) -> bool
+pub fn all_marked(marks: &[u8; rows::cell::STEPS], n: usize) -> bool
     requires { ⌜ n ≤ mostCells ⌝ }
     ensures { λ r. ⌜ r ≡ allMarked (now (marks .entry)) n ⌝ }
 {

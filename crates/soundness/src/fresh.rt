@@ -12,9 +12,6 @@ ghost use Rattle.machine.specs.Sound.{fresh, setupCells};
 ghost use Rattle.machine.specs.Calls.{setupOf};
 ghost use Rattle.soundness.specs.Rising.{freeLink, freeTable};
 
-// The answer for bytes that are no sound store, or cannot be.
-pub const UNSOUND: u64 = 25;
-
 // How many cells a store of n bytes has, 0 where no store is so long.
 fn cells_of(n: usize) -> usize
     ensures { λ r. ⌜ (r ≡ setupCells n) × (r ≤ mostCells) ⌝ }
@@ -106,11 +103,11 @@ pub fn setup(store: &mut [u8], role: u64) -> u64
 {
     let cells = cells_of(store.len());
     if cells == 0 {
-        return UNSOUND;
+        return answer::UNSOUND_STORE;
     }
     let right = rows::head::is_role(role);
     if !right {
-        return UNSOUND;
+        return answer::UNSOUND_STORE;
     }
     put_fresh(store, role, cells);
     0

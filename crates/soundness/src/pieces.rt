@@ -10,7 +10,13 @@ ghost use Rattle.machine.specs.Layout.{cellAt, recChain, cellChain, readCells};
 ghost use Rattle.soundness.specs.Walked.{Room, piecesMarked, readable, complete, nextCut, piecesFit};
 
 // Walks the chain of pieces of each record from `first` on and marks their places.
-pub fn marked(s: &[u8], cells: usize, role: u64, first: usize, marks: &mut [u8; 46]) -> bool
+pub fn marked(
+    s: &[u8],
+    cells: usize,
+    role: u64,
+    first: usize,
+    marks: &mut [u8; rows::cell::STEPS],
+) -> bool
     requires { ⌜ Room cells (now s) × (all (inside recCount) (recChain (now s) first) ≡ true) ⌝ }
     ensures { λ r. ⌜ record { ok = r; marks = now (marks .exit) } ≡ piecesMarked cells role (now (s .entry)) (recChain (now (s .entry)) first) (now (marks .entry)) ⌝ }
 {

@@ -20,7 +20,7 @@ fn records_once(s: &[u8], cells: usize, role: u64) -> bool
     requires { ⌜ Room cells (now s) ⌝ }
     ensures { λ r. ⌜ r ≡ recordsOnce role (now (s .entry)) ⌝ }
 {
-    let mut marks = [0u8; 46];
+    let mut marks = [0u8; rows::cell::STEPS];
     let t = crate::chain::records();
     let free = octets::small(s[rows::head::Head::FREE]);
     let held = octets::small(s[rows::head::Head::HELD]);
@@ -45,7 +45,7 @@ fn cells_once(s: &[u8], cells: usize, role: u64) -> bool
     requires { ⌜ Room cells (now s) × RecordsInside (now s) ⌝ }
     ensures { λ r. ⌜ r ≡ cellsOnce cells role (now (s .entry)) ⌝ }
 {
-    let mut marks = [0u8; 46];
+    let mut marks = [0u8; rows::cell::STEPS];
     let t = crate::chain::cells(cells);
     let free = octets::small(s[rows::head::Head::FREE_CELLS]);
     let held = octets::small(s[rows::head::Head::HELD]);

@@ -40,7 +40,7 @@ fn free_cells(store: &mut [u8], first: u8, end: u8)
 {
     let mut p = first;
     let mut n: usize = 0;
-    while n < cell::MOST + 1 {
+    while n < cell::STEPS {
         if p == 0 {
             return;
         }

@@ -23,7 +23,7 @@ pub fn find(store: &[u8], at: usize, id: &[u8]) -> usize
 {
     let mut link = at;
     let mut n: usize = 0;
-    while n < record::COUNT + 1 {
+    while n < record::STEPS {
         let next = store[link];
         if next == 0 {
             return link;

@@ -15,9 +15,6 @@ abbrev μ-loop : tie.MeasureT-loop
 loop-holds : tie.Need-loop-holds Inv-loop μ-loop
 loop-holds c = record { turns = omega arith; chain = c .before .pre; long = refl; gives = refl }
 
-add-loop : tie.Need-add-loop Inv-loop μ-loop
-add-loop c = omega arith
-
 same-length : tie.Need-same-length Inv-loop μ-loop
 same-length c = c .before .before .loop .inv .long
 
@@ -47,4 +44,4 @@ returns-2 c = frees-out _ _ _ _ _ _ (c .before .loop .inv) (c .loop-test .left)
 pub free-cells-spec : {M : Type 1} → statement M
 free-cells-spec =
     tie.close
-    (tie.spec Inv-loop μ-loop loop-holds add-loop same-length returns free-cell-requires add-n loop-less loop-again same-length-2 returns-2)
+    (tie.spec Inv-loop μ-loop loop-holds same-length returns free-cell-requires add-n loop-less loop-again same-length-2 returns-2)

@@ -17,9 +17,6 @@ abbrev μ-loop : tie.MeasureT-loop
 loop-holds : tie.Need-loop-holds Inv-loop μ-loop
 loop-holds c = record { turns = omega arith; within = c .before .before .pre .1; gives = refl }
 
-add-loop : tie.Need-add-loop Inv-loop μ-loop
-add-loop c = omega arith
-
 shared-slice-read-next : tie.Need-shared-slice-read-next Inv-loop μ-loop
 shared-slice-read-next c = search needs
 
@@ -73,4 +70,4 @@ returns-3 c = ends-out _ _ _ _ _ (c .before .loop .inv) (c .loop-test .left)
 pub find-spec : {M : Type 1} → statement M
 find-spec =
     tie.close
-    (tie.spec Inv-loop μ-loop loop-holds add-loop shared-slice-read-next returns rec-off-requires add-a add-e sub-equal part-equal-start part-equal-end equal-requires returns-2 add-n loop-less loop-again returns-3)
+    (tie.spec Inv-loop μ-loop loop-holds shared-slice-read-next returns rec-off-requires add-a add-e sub-equal part-equal-start part-equal-end equal-requires returns-2 add-n loop-less loop-again returns-3)

@@ -4,13 +4,14 @@ use crate::counts::Counts;
 use crate::datagram::{Arrived, MOST};
 use crate::failure::Failure;
 use crate::faults::Odds;
+use crate::inits;
 use crate::kept::Kept;
 use crate::keys::{Key, Known};
 use crate::peers::Peers;
 use crate::port::Port;
 use crate::silence::Silence;
 use crate::surveys::Surveys;
-use socketlemon::{Address, Arrival, Kind, Record, Refusal, Role, Rules, Store, LONGEST_RUN, PACKET_RUN};
+use socketlemon::{Address, Kind, Record, Refusal, Role, Rules, Run, Store, LONGEST_RUN, PACKET_RUN};
 use std::net::{SocketAddr, SocketAddrV6};
 use std::path::PathBuf;
 use std::time::{Duration, Instant};
@@ -152,40 +153,41 @@ impl Office {
         }
         match answer {
             Ok(length) => {
-                self.peers.heard(arrived.from, peer);
-                self.silence.heard(arrived.id(), Instant::now());
-                if arrived.is_done() {
-                    self.kept.receipts.keep(&arrived);
-                }
-                self.kept.save()?;
-                for packet in socketlemon::Run::from_bytes(&run[..length]) {
-                    self.port.send(&packet, peer);
-                }
+                self.accepted(&arrived, peer)?;
+                Run::from_bytes(&run[..length]).packets().for_each(|packet| self.port.send(&packet, peer));
                 self.deliver(say)
             }
-            Err(refusal) => {
-                // making room may have changed the store all the same
-                self.kept.save()?;
-                let receipt = if refusal == Refusal::UnknownId && arrived.is_done() {
-                    self.kept.receipts.find(&arrived)
-                } else {
-                    None
-                };
-                match receipt {
-                    Some(packet) => self.port.send(&packet, peer),
-                    None => self.counts.refuse(refusal),
-                }
-                Ok(())
-            }
+            Err(refusal) => self.refused(&arrived, refusal, peer),
         }
     }
 
-    /// The library's answer to a packet: how much of the run was written.
+    /// Notes a packet that was accepted, and keeps what it has changed.
+    fn accepted(&mut self, arrived: &Arrived, peer: SocketAddr) -> Result<(), Failure> {
+        self.peers.heard(arrived.from, peer);
+        self.silence.heard(arrived.id(), Instant::now());
+        if arrived.is_done() {
+            self.kept.receipts.keep(arrived);
+        }
+        self.kept.save()
+    }
+
+    /// Counts a packet that was refused; but a done that had a receipt before gets it again, whatever has become of its id since.
+    fn refused(&mut self, arrived: &Arrived, refusal: Refusal, peer: SocketAddr) -> Result<(), Failure> {
+        // making room may have changed the store all the same
+        self.kept.save()?;
+        let receipt = if arrived.is_done() { self.kept.receipts.find(arrived) } else { None };
+        match receipt {
+            Some(packet) => self.port.send(&packet, peer),
+            None => self.counts.refuse(refusal),
+        }
+        Ok(())
+    }
+
+    /// The answer to a packet: how much of the run was written.
     fn packet(&mut self, arrived: &Arrived, run: &mut [u8]) -> Result<usize, Refusal> {
         let known = self.record(arrived).map_or(false, |record| self.known.has(record.source));
-        let arrival =
-            Arrival { frame: &arrived.frame, from: arrived.from, to: arrived.to, rules: &self.rules, known };
-        let answer = self.kept.store.packet(&mut self.nothing_to_send, &arrival, run)?;
+        let Office { kept, nothing_to_send, rules, .. } = self;
+        let answer = inits::packet(&mut kept.store, nothing_to_send, arrived, rules, known, run)?;
         Ok(answer.run.as_bytes().len())
     }
 

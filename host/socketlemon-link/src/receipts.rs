@@ -1,8 +1,8 @@
 //! Receipts: the acknowledgements of the last dones.
 //!
-//! The library acknowledges a done once: when it comes again, the message is no longer arriving, and the done is refused as an unknown id. If the one
-//! acknowledgement is lost, the tablet would not learn that its survey has arrived. So the office keeps the last acknowledgements and sends one again when the
-//! very same done comes again: to the tablet that is a datagram which the link repeated.
+//! The library acknowledges a done once: when it comes again, the message is no longer arriving, and the done is refused: as an unknown id, or, where a late init
+//! has opened the id anew, because the pieces are not there. If the one acknowledgement is lost, the tablet would not learn that its survey has arrived. So the
+//! office keeps the last acknowledgements and sends one again when the very same done comes again: to the tablet that is a datagram which the link repeated.
 
 use crate::datagram::{Arrived, DONE_BYTES};
 use socketlemon::{Address, Packet};

@@ -97,6 +97,10 @@ struct Tablet<'a> {
     start: Instant,
     counts: Counts,
     answers: u64,
+    /// Whether the user was told that there is no answer.
+    told_silent: bool,
+    /// Since when the survey is received.
+    received: Option<Instant>,
 }
 
 /// Sends a survey and waits for its receipt.
@@ -124,44 +128,21 @@ impl Tablet<'_> {
             start: Instant::now(),
             counts: Counts::default(),
             answers: 0,
+            told_silent: false,
+            received: None,
         })
     }
 
     fn work(&mut self, progress: &mut Progress) -> Result<Ended, Failure> {
         let mut buffer = [0; MOST + 1];
-        let deadline = self.start + self.told.deadline;
         let mut next_send = self.start + SEND_WAKE;
-        let mut first_word = Some(self.start + FIRST_WORD);
-        let mut received: Option<Instant> = None;
         self.push()?;
         loop {
-            let report = self.report()?;
-            progress.show(&report);
             let now = Instant::now();
-            match report.state {
-                State::Read => return Ok(Ended::Read),
-                State::Received => {
-                    let since = *received.get_or_insert(now);
-                    if now >= since + READ_WAIT {
-                        return Ok(Ended::Received);
-                    }
-                }
-                _ if now >= deadline => {
-                    self.wake(Wake::Deadline)?;
-                    self.port.release();
-                    progress.show(&self.report()?);
-                    return Err(self.why_not(&report));
-                }
-                _ => {}
+            if let Some(ended) = self.ended(now, progress)? {
+                return Ok(ended);
             }
-            if first_word.map_or(false, |at| now >= at) && self.answers == 0 {
-                first_word = None;
-                progress.say(&format!(
-                    "no answer from {} yet, trying for {} s",
-                    self.told.to,
-                    self.told.deadline.as_secs()
-                ));
-            }
+            self.tell_silence(now, progress);
             if now >= next_send {
                 next_send = now + SEND_WAKE;
                 self.port.release();
@@ -171,6 +152,39 @@ impl Tablet<'_> {
                 self.datagram(datagram)?;
             }
         }
+    }
+
+    /// How the survey has ended, if it has. Not to have arrived at the deadline is a failure.
+    fn ended(&mut self, now: Instant, progress: &mut Progress) -> Result<Option<Ended>, Failure> {
+        let report = self.report()?;
+        progress.show(&report);
+        match report.state {
+            State::Read => Ok(Some(Ended::Read)),
+            State::Received => {
+                let since = *self.received.get_or_insert(now);
+                Ok((now >= since + READ_WAIT).then_some(Ended::Received))
+            }
+            _ if now >= self.start + self.told.deadline => {
+                self.wake(Wake::Deadline)?;
+                self.port.release();
+                progress.show(&self.report()?);
+                Err(self.why_not(&report))
+            }
+            _ => Ok(None),
+        }
+    }
+
+    /// Tells the user once if nobody has answered for a while.
+    fn tell_silence(&mut self, now: Instant, progress: &mut Progress) {
+        if self.told_silent || self.answers > 0 || now < self.start + FIRST_WORD {
+            return;
+        }
+        self.told_silent = true;
+        progress.say(&format!(
+            "no answer from {} yet, trying for {} s",
+            self.told.to,
+            self.told.deadline.as_secs()
+        ));
     }
 
     fn push(&mut self) -> Result<(), Failure> {
@@ -253,7 +267,8 @@ impl Tablet<'_> {
                 self.told.office, self.own
             ),
             _ if usize::from(report.acked) == all => format!(
-                "the office has all {all} pieces, but sent no receipt within {seconds} s: does it know the key of {}? The survey may have arrived all the same",
+                "the office acknowledged all {all} pieces, but sent no receipt within {seconds} s: does it know the key of {}? \
+                 The survey may have arrived all the same",
                 self.own
             ),
             _ => format!("the office stopped answering: {} of {all} pieces were acknowledged within {seconds} s", report.acked),

@@ -1,4 +1,4 @@
-//! What an office must withstand: noise, strangers that fill its store, and dones that come again.
+//! What an office must withstand: noise, strangers that fill its store, and inits and dones that come again.
 
 mod common;
 
@@ -40,6 +40,59 @@ impl Voice {
         let length = self.socket.recv(&mut buffer).ok()?;
         Some(Arrived::read(&buffer[..length], own).expect("a datagram of the office"))
     }
+}
+
+const ID: Id = Id([1; 8]);
+
+/// The known tablet, with a survey of one piece.
+struct Tablet {
+    own: Address,
+    send: Store,
+    init: Vec<u8>,
+}
+
+impl Tablet {
+    fn push(folder: &Folder, voice: &Voice, data: &[u8]) -> Tablet {
+        let own = Key::of_file(&folder.path("tablet.key")).expect("the tablet's key").address();
+        let mut send = Store::new(Role::Send, 1).expect("a store");
+        let (from, to) = (own, voice.office);
+        let push = Push { id: ID, reply: false, from, to, topic: b"survey", data, created_ms: 0, try_ms: 0 };
+        let init = only(send.push(&push, &mut [0; LONGEST_RUN]).expect("push"));
+        Tablet { own, send, init }
+    }
+
+    /// Sends init and chunk, which are acknowledged. Gives them, and the done that is next.
+    fn send_all(&mut self, voice: &Voice) -> [Vec<u8>; 3] {
+        let mut packets = [self.init.clone(), Vec::new(), Vec::new()];
+        for number in 0..2 {
+            let acknowledgement = self.ask(voice, &packets[number]).expect("an acknowledgement");
+            self.take(&acknowledgement);
+            let wake = Wake::Send { clock_ms: 100 * number as u64 };
+            packets[number + 1] = only(self.send.wake(wake, ID, &mut [0; LONGEST_RUN]).expect("wake"));
+        }
+        packets
+    }
+
+    /// The office's answer to a packet.
+    fn ask(&self, voice: &Voice, packet: &[u8]) -> Option<Arrived> {
+        voice.send(self.own, packet);
+        voice.receive(self.own)
+    }
+
+    /// Hands an answer of the office to the library.
+    fn take(&mut self, arrived: &Arrived) {
+        let mut receive = Store::new(Role::Receive, 1).expect("a store");
+        let (frame, from, to) = (&arrived.frame, arrived.from, arrived.to);
+        let arrival = Arrival { frame, from, to, rules: &Rules::reject_unlisted(), known: false };
+        receive.packet(&mut self.send, &arrival, &mut [0; FRAME]).expect("an answer that fits");
+    }
+}
+
+/// The one packet of a run.
+fn only(run: Run<'_>) -> Vec<u8> {
+    let packets: Vec<_> = run.packets().collect();
+    assert_eq!(packets.len(), 1);
+    packets[0].bytes.to_vec()
 }
 
 /// A packet with random bytes, or one of a right form with wrong contents.
@@ -139,61 +192,51 @@ fn silent_messages_are_dropped() {
 fn a_done_that_comes_again_gets_its_receipt_again() {
     let folder = Folder::new();
     introduce(&folder);
-    let own = Key::of_file(&folder.path("tablet.key")).expect("the tablet's key").address();
     let mut office = Office::start(&folder, "[::1]:0", &[]);
     let mut voice = Voice::to(&office);
-    let rules = Rules::reject_unlisted();
-    let (mut send, mut receive) =
-        (Store::new(Role::Send, 1).expect("a store"), Store::new(Role::Receive, 1).expect("a store"));
-    let id = Id([1; 8]);
     let data = survey(1_300, 0);
-    let push = Push {
-        id,
-        reply: false,
-        from: own,
-        to: voice.office,
-        topic: b"survey",
-        data: &data,
-        created_ms: 0,
-        try_ms: 0,
-    };
-    let mut buffer = [0; LONGEST_RUN];
-    let mut out = send.push(&push, &mut buffer).expect("push").as_bytes().to_vec();
-    // init and chunk are acknowledged; then the done is next
-    for clock_ms in [0, 100] {
-        Run::from_bytes(&out).packets().for_each(|packet| voice.send(own, packet.bytes));
-        let arrived = voice.receive(own).expect("an acknowledgement");
-        let arrival =
-            Arrival { frame: &arrived.frame, from: arrived.from, to: own, rules: &rules, known: false };
-        receive.packet(&mut send, &arrival, &mut [0; FRAME]).expect("an acknowledgement");
-        out = send.wake(Wake::Send { clock_ms }, id, &mut buffer).expect("wake").as_bytes().to_vec();
-    }
-    let done = Run::from_bytes(&out).packets().next().expect("a done").bytes.to_vec();
-    voice.send(own, &done);
-    let first = voice.receive(own).expect("the receipt");
+    let mut tablet = Tablet::push(&folder, &voice, &data);
+    let [init, _, done] = tablet.send_all(&voice);
+    let first = tablet.ask(&voice, &done).expect("the receipt");
     assert_eq!(first.frame[8], 0x41);
-    let read = voice.receive(own).expect("the read packet");
+    let read = voice.receive(tablet.own).expect("the read packet");
     assert_eq!(read.frame[8], 0x08);
 
     // both were lost on the way: the tablet sends its done again, also to an office that was started again
-    voice.send(own, &done);
-    assert_eq!(voice.receive(own).expect("the receipt again").frame, first.frame);
+    assert_eq!(tablet.ask(&voice, &done).expect("the receipt again").frame, first.frame);
     office.kill();
     let socket = office.socket.clone();
     office = Office::start(&folder, &socket, &[]);
     voice = Voice::to(&office);
-    voice.send(own, &done);
-    let again = voice.receive(own).expect("the receipt again");
+    let again = tablet.ask(&voice, &done).expect("the receipt again");
     assert_eq!(again.frame, first.frame);
-    let arrival = Arrival { frame: &again.frame, from: again.from, to: own, rules: &rules, known: false };
-    receive.packet(&mut send, &arrival, &mut [0; FRAME]).expect("the receipt");
-    assert_eq!(send.report(id).expect("report").state, State::Received);
+    tablet.take(&again);
+    assert_eq!(tablet.send.report(ID).expect("report").state, State::Received);
+
+    // a late init opens the id anew, and the done is refused for another reason
+    assert_eq!(tablet.ask(&voice, &init).expect("an acknowledgement").frame[8], 0x81);
+    assert_eq!(tablet.ask(&voice, &done).expect("the receipt again").frame, first.frame);
 
     // a done with another sum is another done
     let mut other = done;
     other[51] ^= 1;
     voice.socket.set_read_timeout(Some(Duration::from_millis(300))).expect("a time to wait");
-    voice.send(own, &other);
-    assert!(voice.receive(own).is_none());
+    assert!(tablet.ask(&voice, &other).is_none());
     assert!(folder.surveys() == [data], "and it was written once");
+}
+
+#[test]
+fn an_init_that_comes_again_loses_no_piece() {
+    let folder = Folder::new();
+    introduce(&folder);
+    let office = Office::start(&folder, "[::1]:0", &[]);
+    let voice = Voice::to(&office);
+    let data = survey(1_300, 0);
+    let mut tablet = Tablet::push(&folder, &voice, &data);
+    let [init, _, done] = tablet.send_all(&voice);
+    let again = tablet.ask(&voice, &init).expect("an acknowledgement");
+    assert_eq!((again.frame[8], &again.frame[12..21]), (0x81, &init[12..21]));
+    assert_eq!(tablet.ask(&voice, &done).expect("the receipt").frame[8], 0x41);
+    assert_eq!(voice.receive(tablet.own).expect("the read packet").frame[8], 0x08);
+    assert!(folder.surveys() == [data]);
 }

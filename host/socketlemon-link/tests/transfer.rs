@@ -89,7 +89,7 @@ fn an_unknown_tablet_gets_no_receipt() {
     let mut office = Office::start(&folder, "[::1]:0", &[]);
     let file = folder.file("survey", &survey(1_300, 0));
     let send = tablet(&folder, &office, &file, &["--deadline", "1"]);
-    assert_fails(send, 1, &["has all 1 pieces, but sent no receipt within 1 s", "know the key"]);
+    assert_fails(send, 1, &["acknowledged all 1 pieces, but sent no receipt within 1 s", "know the key"]);
     assert!(office.runs());
     assert!(folder.surveys().is_empty());
 }

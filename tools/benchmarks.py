@@ -76,15 +76,24 @@ def store_bytes(cells):
     return 16 + 8 * 328 + 1380 * cells
 
 
-def machine():
+def cpu():
+    """What the system tells of the CPU; not every one tells all."""
     facts = {}
     for line in pathlib.Path("/proc/cpuinfo").read_text().splitlines():
         name, _, value = line.partition(":")
         facts.setdefault(name.strip(), value.strip())
-    cpu = f"{facts['model name']} (family {facts['cpu family']}, model {facts['model']})"
-    virtual = ", virtual" if "hypervisor" in facts["flags"].split() else ""
+    kind = [f"{word} {facts[name]}" for word, name in (("family", "cpu family"), ("model", "model")) if name in facts]
+    words = [facts.get("model name", os.uname().machine) + (f" ({', '.join(kind)})" if kind else ""), f"{os.cpu_count()} cores"]
+    if "hypervisor" in facts.get("flags", "").split():
+        words.append("virtual")
+    if "cache size" in facts:
+        words.append(f"{facts['cache size']} cache")
+    return ", ".join(words)
+
+
+def machine():
     rows = [
-        ["CPU", f"{cpu}, {os.cpu_count()} cores{virtual}, {facts['cache size']} L2"],
+        ["CPU", cpu()],
         ["kernel", f"{os.uname().sysname} {os.uname().release}"],
         ["compilers", f"{said('rustc', '--version')}; {said('rt', 'version')}"],
         ["date", f"{datetime.datetime.now(datetime.timezone.utc):%Y-%m-%d}"],

@@ -2,12 +2,13 @@
 //!
 //! The library: in the folder that SOCKETLEMON_LIB names, else where `rt staticlib` puts it. The original: in the folder that SOCKETLEMON_ORIGINAL
 //! names, else in shared/docs/src beside the repository. Its files are copied unchanged, after their BLAKE3 sums were found to be those of original.sums;
-//! without them the crate is built without the comparison.
+//! without them the crate is built without the comparison, unless a folder was named.
 
 use std::path::{Path, PathBuf};
 use std::{env, fs, process};
 
 const SUMS: &str = "original.sums";
+const ORIGINAL: &str = "SOCKETLEMON_ORIGINAL";
 
 fn main() {
     let here = PathBuf::from(env::var_os("CARGO_MANIFEST_DIR").expect("cargo names the crate's folder"));
@@ -38,7 +39,7 @@ fn link_library(here: &Path) {
 fn take_original(here: &Path) {
     println!("cargo:rustc-check-cfg=cfg(original)");
     println!("cargo:rerun-if-changed={SUMS}");
-    let folder = folder(here, "SOCKETLEMON_ORIGINAL", "../../../shared/docs/src");
+    let folder = folder(here, ORIGINAL, "../../../shared/docs/src");
     let out = PathBuf::from(env::var_os("OUT_DIR").expect("cargo names the folder for output"));
     let sums = fs::read_to_string(here.join(SUMS)).unwrap_or_else(|e| fail(format!("{SUMS}: {e}.")));
     let mut files = Vec::new();
@@ -50,6 +51,10 @@ fn take_original(here: &Path) {
         println!("cargo:rerun-if-changed={}", from.display());
         match fs::read(&from) {
             Ok(bytes) => files.push((name, sum, bytes)),
+            Err(error) if env::var_os(ORIGINAL).is_some() => fail(format!(
+                "{ORIGINAL} names a folder that lacks a file of the original: {}: {error}.",
+                from.display()
+            )),
             Err(_) => {
                 return println!(
                     "cargo:warning=the original is not at hand ({} is missing): no comparison is built",

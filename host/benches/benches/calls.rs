@@ -5,9 +5,9 @@ use benches::library::Node;
 use benches::scene::{self, Scene};
 use criterion::{black_box, criterion_group, criterion_main, BatchSize, BenchmarkId, Criterion};
 use criterion::{measurement::WallTime, BenchmarkGroup};
+use socketlemon::Store;
 
-const CELLS: [usize; 4] = [1, 5, 15, 45];
-const MOST_CELLS: usize = 45;
+const CELLS: [usize; 4] = [1, 5, 15, Store::MOST_CELLS];
 
 /// The calls that show the cost of the number of cells.
 const BY_CELLS: [&str; 2] = ["read-unknown", "chunk-held"];
@@ -58,7 +58,7 @@ fn original(group: &mut Group<'_>, scene: &Scene) {
     let node = original::Node::of(scene);
     node.packet(&scene.frame);
     let replies = node.sent().iter().filter(|packet| packet.flags() & oracle::call::ACK != 0).count();
-    let mut node = Node::of(scene, MOST_CELLS);
+    let mut node = Node::of(scene, Store::MOST_CELLS);
     let ours = node.packet(&scene.frame).map_or(0, |(run, _)| library::packets(run).len());
     assert_eq!(ours, replies, "replies to {}", scene.name);
 
@@ -73,11 +73,11 @@ fn original(_: &mut Group<'_>, _: &Scene) {}
 
 /// Each kind on the largest stores, and beside it the quicker scan: what is compared is measured close together.
 fn calls(c: &mut Criterion) {
-    for (name, scenes) in [("full", scene::full(MOST_CELLS)), ("empty", scene::empty())] {
+    for (name, scenes) in [("full", scene::full(Store::MOST_CELLS)), ("empty", scene::empty())] {
         let mut group = c.benchmark_group(format!("calls-{name}"));
         for scene in scenes {
-            scan(&mut group, BenchmarkId::new("scan", scene.name), joined_zero, MOST_CELLS);
-            ours(&mut group, BenchmarkId::new("ours", scene.name), &scene, MOST_CELLS);
+            scan(&mut group, BenchmarkId::new("scan", scene.name), joined_zero, Store::MOST_CELLS);
+            ours(&mut group, BenchmarkId::new("ours", scene.name), &scene, Store::MOST_CELLS);
             original(&mut group, &scene);
         }
     }

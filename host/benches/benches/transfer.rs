@@ -6,9 +6,9 @@ use criterion::{
     criterion_group, criterion_main, measurement::WallTime, BatchSize, BenchmarkGroup, Criterion,
 };
 use oracle::call::{Id, Packet};
+use socketlemon::Store;
 
 const ID: Id = *b"house 12";
-const CELLS: usize = 45;
 
 /// The frames of packets, as they arrive.
 fn frames(packets: Vec<Packet>) -> Vec<Vec<u8>> {
@@ -72,7 +72,8 @@ fn original(_: &mut BenchmarkGroup<'_, WallTime>, _: &[u8]) {}
 
 fn transfer(c: &mut Criterion) {
     let data = message(LONGEST);
-    let fresh = || (Node::new(KEY, PEER_KEY, CELLS), Node::new(PEER_KEY, KEY, CELLS));
+    let node = |key, peer| Node::new(key, peer, Store::MOST_CELLS);
+    let fresh = || (node(KEY, PEER_KEY), node(PEER_KEY, KEY));
     let transfer = |nodes: &mut (Node, Node)| ours(&mut nodes.0, &mut nodes.1, &data);
     assert!(transfer(&mut fresh()) == data, "the library's message arrives");
     let mut group = c.benchmark_group("transfer");

@@ -11,6 +11,9 @@ pub type Address = [u8; 16];
 /// The bytes of a frame.
 pub const FRAME: usize = 1400;
 
+/// The most cells of a store.
+pub const MOST_CELLS: usize = 45;
+
 /// The flag that marks an acknowledgement, in a packet's byte 8.
 pub const ACK: u8 = 0x01;
 

@@ -17,6 +17,8 @@ fn what_is_not_understood_is_said() {
     for words in [
         &["--seeds"][..],
         &["--seeds", "many"],
+        &["--seeds", "0"],
+        &["--steps", "0"],
         &["--what", "1"],
         &["replay"],
         &["replay", "/nowhere"],

@@ -231,7 +231,7 @@ pub struct Push<'a> {
 /// Why a message is woken.
 #[derive(Clone, Copy, Debug, PartialEq, Eq)]
 pub enum Wake {
-    /// Kind 1: what is due is sent. The clock must not go back between the wakes of a message.
+    /// Kind 1: what is due is sent. Where the clock went back, no piece is due again.
     Send {
         /// The clock, in milliseconds.
         clock_ms: u64,

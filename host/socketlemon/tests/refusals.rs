@@ -27,17 +27,43 @@ fn packet(id: Id, flags: u8, numbers: &[u64], tail: &[u8]) -> Vec<u8> {
     bytes
 }
 
-/// The answer of a side to a packet made by hand.
-fn hand(side: &mut Side, bytes: &[u8]) -> Result<usize, Refusal> {
+/// The answer of a side to a call with a run buffer of so many bytes. A refusal has changed neither a store nor the buffer.
+fn call<T>(
+    side: &mut Side,
+    run_bytes: usize,
+    call: impl FnOnce(&mut Side, &mut [u8]) -> Result<T, Refusal>,
+) -> Result<T, Refusal> {
     let before = (side.receive.clone(), side.send.clone());
-    let (from, to) = (Address([5; 16]), side.address);
-    let mut run = [0xee; LONGEST_RUN];
-    let answer = side.packet(Packet { from, to, bytes }, &mut run).map(|a| a.run.as_bytes().len());
+    let mut run = vec![0xee; run_bytes];
+    let answer = call(side, &mut run);
     if answer.is_err() {
-        assert!(before == (side.receive.clone(), side.send.clone()), "a refusal changed a store");
-        assert!(run == [0xee; LONGEST_RUN], "a refusal wrote into the run");
+        assert!((&side.receive, &side.send) == (&before.0, &before.1), "a refusal changed a store");
+        assert!(run.iter().all(|byte| *byte == 0xee), "a refusal wrote into the run");
     }
     answer
+}
+
+/// The answer of a side to a packet made by hand: how many bytes it sends.
+fn hand(side: &mut Side, bytes: &[u8]) -> Result<usize, Refusal> {
+    hand_short(side, bytes, LONGEST_RUN)
+}
+
+/// The same with a run buffer of so many bytes.
+fn hand_short(side: &mut Side, bytes: &[u8], run_bytes: usize) -> Result<usize, Refusal> {
+    let (from, to) = (Address([5; 16]), side.address);
+    call(side, run_bytes, |side, run| {
+        side.packet(Packet { from, to, bytes }, run).map(|answer| answer.run.as_bytes().len())
+    })
+}
+
+/// The refusal of a take.
+fn take(side: &mut Side, run_bytes: usize) -> Option<Refusal> {
+    call(side, run_bytes, |side, run| side.receive.take(run).map(|_| ())).err()
+}
+
+/// The refusal of a wake.
+fn wake(side: &mut Side, wake: Wake, run_bytes: usize) -> Option<Refusal> {
+    call(side, run_bytes, |side, run| side.send.wake(wake, ID, run).map(|_| ())).err()
 }
 
 /// An office that holds an arriving message of a length, with no pieces.
@@ -63,18 +89,17 @@ fn frames_and_outputs() {
         let frame = vec![0; length];
         let (from, to) = (side.address, side.address);
         let arrival = Arrival { frame: &frame, from, to, rules: &rules, known: true };
-        let answer = side.receive.packet(&mut side.send, &arrival, &mut [0; PACKET_RUN]).err();
-        assert_eq!(answer, Some(Refusal::BadFrame));
+        let answer = call(&mut side, PACKET_RUN, |side, run| {
+            side.receive.packet(&mut side.send, &arrival, run).map(|_| ())
+        });
+        assert_eq!(answer, Err(Refusal::BadFrame));
     }
-    let bytes = packet(ID, INIT, &[0], &[0]);
-    let (from, to) = (side.address, side.address);
-    let answer = side.packet(Packet { from, to, bytes: &bytes }, &mut [0; PACKET_RUN - 1]).err();
-    assert_eq!(answer, Some(Refusal::ShortOutput));
+    let init = packet(ID, INIT, &[0], &[0]);
+    assert_eq!(hand_short(&mut side, &init, PACKET_RUN - 1), Err(Refusal::ShortOutput));
     assert_eq!(hand(&mut side, &packet(ID, DONE, &[0], &EMPTY_SUM)), Ok(34 + 52));
-    assert_eq!(side.receive.take(&mut [0; TAKE_RUN - 1]), Err(Refusal::ShortOutput));
+    assert_eq!(take(&mut side, TAKE_RUN - 1), Some(Refusal::ShortOutput));
     let mut tablet = tablet();
-    let wake = Wake::Send { clock_ms: 0 };
-    assert_eq!(tablet.send.wake(wake, ID, &mut [0; WAKE_RUN - 1]), Err(Refusal::ShortOutput));
+    assert_eq!(wake(&mut tablet, Wake::Send { clock_ms: 0 }, WAKE_RUN - 1), Some(Refusal::ShortOutput));
     assert_eq!(hand(&mut tablet, &packet(ID, 0, &[], &[])), Err(Refusal::NoWork));
     assert_eq!(hand(&mut tablet, &packet(ID, READ | ACK, &[], &[])), Err(Refusal::NoWork));
 }
@@ -150,8 +175,11 @@ fn pushes_and_takes() {
     let (mut tablet, mut office) = (Side::new(1, 1), Side::new(2, 1));
     let data = message(32_501);
     let good = push(&tablet, &office, &data[..1_300]);
-    let mut run = [0; LONGEST_RUN];
-    let mut refused = |push: &Push<'_>| tablet.send.push(push, &mut run).err();
+    let mut short = |push: &Push<'_>, run_bytes| {
+        call(&mut tablet, run_bytes, |side, run| side.send.push(push, run).map(|_| ())).err()
+    };
+    assert_eq!(short(&good, PUSH_RUN - 1), Some(Refusal::ShortOutput));
+    let mut refused = |push: &Push<'_>| short(push, LONGEST_RUN);
     assert_eq!(refused(&Push { topic: &[1; 256], ..good }), Some(Refusal::TopicTooLarge));
     assert_eq!(refused(&Push { data: &data, ..good }), Some(Refusal::TooLong));
     assert_eq!(refused(&Push { created_ms: u64::MAX, try_ms: 1, ..good }), Some(Refusal::Clock));
@@ -162,12 +190,19 @@ fn pushes_and_takes() {
         assert_eq!(refused(&Push { id: Id([id; 8]), data: &[], ..good }), None);
     }
     assert_eq!(refused(&Push { id: Id([8; 8]), data: &[], ..good }), Some(Refusal::NoRecord));
-    assert_eq!(tablet.send.push(&good, &mut [0; PUSH_RUN - 1]), Err(Refusal::ShortOutput));
+    assert_eq!(take(&mut office, LONGEST_RUN), Some(Refusal::NoneWhole));
+    assert_eq!(wake(&mut office, Wake::Deadline, LONGEST_RUN), Some(Refusal::UnknownId));
+}
 
-    assert_eq!(office.receive.take(&mut run), Err(Refusal::NoneWhole));
-    assert_eq!(office.send.take(&mut run), Err(Refusal::UnsoundStore));
-    assert_eq!(office.receive.report(ID), Err(Refusal::UnsoundStore));
-    assert_eq!(office.receive.push(&good, &mut run), Err(Refusal::UnsoundStore));
-    assert_eq!(office.receive.wake(Wake::Deadline, ID, &mut run), Err(Refusal::UnsoundStore));
-    assert_eq!(office.send.wake(Wake::Deadline, ID, &mut run), Err(Refusal::UnknownId));
+#[test]
+fn stores_in_the_place_of_the_other_role() {
+    let (tablet, mut side) = (Side::new(1, 1), Side::new(2, 1));
+    let good = push(&tablet, &side, b"data");
+    std::mem::swap(&mut side.receive, &mut side.send);
+    assert_eq!(hand(&mut side, &packet(ID, INIT, &[0], &[0])), Err(Refusal::UnsoundStore));
+    assert_eq!(take(&mut side, LONGEST_RUN), Some(Refusal::UnsoundStore));
+    assert_eq!(wake(&mut side, Wake::Deadline, LONGEST_RUN), Some(Refusal::UnsoundStore));
+    let pushed = call(&mut side, LONGEST_RUN, |side, run| side.send.push(&good, run).map(|_| ()));
+    assert_eq!(pushed, Err(Refusal::UnsoundStore));
+    assert_eq!(side.send.report(ID), Err(Refusal::UnsoundStore), "a report cannot change its store");
 }

@@ -2,7 +2,7 @@
 
 use std::collections::BTreeSet;
 
-use crate::call::{Address, Call, Id, Packet, Push, Setup, ACK, FRAME};
+use crate::call::{Address, Call, Id, Packet, Push, Setup, ACK, FRAME, MOST_CELLS};
 use crate::frame;
 use crate::live::coverage::BOUNDARY_LENGTHS;
 use crate::live::rng::Rng;
@@ -52,7 +52,8 @@ impl Plan {
 
     /// How a node is set up, and the time at which it starts.
     pub fn start(rng: &mut Rng) -> (Setup, u64) {
-        let mut cells = || if rng.one_in(3) { rng.between(1, 44) as usize } else { 45 };
+        let mut cells =
+            || if rng.one_in(3) { rng.between(1, MOST_CELLS as u64 - 1) as usize } else { MOST_CELLS };
         let (recv_cells, send_cells) = (cells(), cells());
         (Setup { key: rng.bytes(), recv_cells, send_cells }, rng.between(10_000, 1 << 40))
     }

@@ -2,7 +2,7 @@
 
 use std::collections::BTreeSet;
 
-use crate::call::{Address, Call, Id, Packet, Push, Setup, FRAME};
+use crate::call::{Address, Call, Id, Packet, Push, Setup, FRAME, MOST_CELLS};
 use crate::frame;
 use crate::list::List;
 use crate::live::compare;
@@ -38,7 +38,7 @@ pub fn samples() -> Result<Vec<(String, List)>, Difference> {
 }
 
 fn setup() -> Setup {
-    Setup { key: [7; 32], recv_cells: 45, send_cells: 45 }
+    Setup { key: [7; 32], recv_cells: MOST_CELLS, send_cells: MOST_CELLS }
 }
 
 fn push(number: usize, length: usize) -> Push {

@@ -3,6 +3,7 @@
 use crate::kind;
 use crate::make;
 use crate::make::Made;
+use crate::room;
 use crate::text;
 use crate::told;
 use crate::told::Call;
@@ -31,7 +32,7 @@ pub(crate) enum Outcome {
 }
 
 // One more line of that kind.
-fn bump(counts: &mut [u64; 12], kind: usize) {
+fn bump(counts: &mut [u64; kind::OTHER], kind: usize) {
     if kind < kind::OTHER {
         counts[kind] = std::num::wrapping_add_u64(counts[kind], 1);
     }
@@ -102,7 +103,7 @@ fn step(
     send: &mut [u8],
     run: &mut [u8],
     out: &mut [u8],
-    counts: &mut [u64; 12],
+    counts: &mut [u64; kind::OTHER],
 ) -> Next {
     let line = text::line(text, at);
     if !text::says(line) {
@@ -132,12 +133,12 @@ pub(crate) fn play(
     me: &[u8; 16],
     recv: &mut [u8],
     send: &mut [u8],
-    counts: &mut [u64; 12],
+    counts: &mut [u64; kind::OTHER],
 ) -> Outcome
     requires { ⌜ start ≤ length (now text) ⌝ }
 {
-    let mut run = [0u8; 34250];
-    let mut out = [0u8; 32828];
+    let mut run = [0u8; room::RUN];
+    let mut out = [0u8; room::TAKEN];
     let mut s = State {
         rules: text.len(),
         known: text.len(),

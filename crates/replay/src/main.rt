@@ -6,6 +6,7 @@ mod kind;
 mod list;
 mod make;
 mod node;
+mod room;
 mod show;
 mod shown;
 mod text;
@@ -16,7 +17,7 @@ use list::Outcome;
 
 // Replays the list of that text, and says what came of it. Answers how many differ: 0 or 1.
 fn replay(text: &[u8]) -> u64 {
-    let mut counts = [0u64; 12];
+    let mut counts = [0u64; kind::OTHER];
     match node::replay(text, &mut counts) {
         Outcome::Same => {
             show::counts(&counts);

@@ -2,6 +2,7 @@
 
 use crate::key;
 use crate::kind;
+use crate::room;
 use crate::text;
 use crate::value;
 use crate::value::Value;
@@ -27,7 +28,7 @@ fn push_to(
     let Value::Is(t) = value::bytes(line, 4, &mut topic) else {
         return Made::Bad;
     };
-    let mut bytes = [0u8; 32500];
+    let mut bytes = [0u8; room::MESSAGE];
     let Value::Is(n) = value::bytes(line, 5, &mut bytes) else {
         return Made::Bad;
     };
@@ -71,7 +72,7 @@ fn book(line: &[u8], out: &mut [u8]) -> Value {
 
 // A frame comes in, by the lines with the rule book and with the known keys.
 fn arrive(
-    frame: &[u8; 1400],
+    frame: &[u8; room::FRAME],
     from: &[u8; 16],
     to: &[u8; 16],
     rules_line: &[u8],
@@ -80,7 +81,7 @@ fn arrive(
     send: &mut [u8],
     run: &mut [u8],
 ) -> Made {
-    let mut out = [0u8; 4096];
+    let mut out = [0u8; room::BOOK];
     let Value::Is(n) = book(rules_line, &mut out) else {
         return Made::Bad;
     };
@@ -109,7 +110,7 @@ fn packet(
     if !value::name(line, 2, &mut to) {
         return Made::Bad;
     }
-    let mut frame = [0u8; 1400];
+    let mut frame = [0u8; room::FRAME];
     let Value::Is(_) = value::bytes(line, 3, &mut frame) else {
         return Made::Bad;
     };
@@ -159,7 +160,7 @@ fn rules(line: &[u8]) -> Made {
     if text::rest(line) != 1 {
         return Made::Bad;
     }
-    let mut out = [0u8; 4096];
+    let mut out = [0u8; room::BOOK];
     let Value::Is(_) = book(line, &mut out) else {
         return Made::Bad;
     };

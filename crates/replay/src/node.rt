@@ -1,7 +1,9 @@
 // A list's first line, `node KEY ADDRESS CELLS CELLS`: the node that its calls are made on.
 
+use crate::kind;
 use crate::list;
 use crate::list::Outcome;
+use crate::room;
 use crate::text;
 use crate::told::Why;
 use crate::value;
@@ -10,6 +12,7 @@ use rows::cell;
 use rows::head;
 ghost use Prim.Native.Nat.{_<_, _≤_};
 ghost use lib.ListN.{length};
+ghost use Rattle.machine.specs.Limits.{storeBytes, mostCells};
 
 // Where the first line starts that says anything, or the end of the text.
 fn first(text: &[u8]) -> usize
@@ -35,7 +38,7 @@ fn is_node(line: &[u8]) -> bool {
 
 // The bytes of a store with as many cells as word k says, or 0 where it does not say how many.
 fn size(line: &[u8], k: usize) -> usize
-    ensures { λ r. ⌜ r ≤ 64740 ⌝ }
+    ensures { λ r. ⌜ r ≤ storeBytes mostCells ⌝ }
 {
     let Value::Is(n) = value::number(line, k) else {
         return 0;
@@ -68,7 +71,7 @@ fn play(
     me: &[u8; 16],
     recv: &mut [u8],
     send: &mut [u8],
-    counts: &mut [u64; 12],
+    counts: &mut [u64; kind::OTHER],
 ) -> Outcome
     requires { ⌜ at < length (now text) ⌝ }
 {
@@ -85,19 +88,19 @@ fn play(
 }
 
 // Stores of as many cells as the line at a place says, and the calls after it.
-fn stores(text: &[u8], at: usize, me: &[u8; 16], counts: &mut [u64; 12]) -> Outcome
+fn stores(text: &[u8], at: usize, me: &[u8; 16], counts: &mut [u64; kind::OTHER]) -> Outcome
     requires { ⌜ at < length (now text) ⌝ }
 {
     let line = text::line(text, at);
     let n = size(line, 3);
     let m = size(line, 4);
-    let mut recv = [0xeeu8; 64740];
-    let mut send = [0xeeu8; 64740];
+    let mut recv = [0xeeu8; room::STORE];
+    let mut send = [0xeeu8; room::STORE];
     play(text, at, me, &mut recv[..n], &mut send[..m], counts)
 }
 
 // Replays a list, and counts its lines by their kinds.
-pub(crate) fn replay(text: &[u8], counts: &mut [u64; 12]) -> Outcome {
+pub(crate) fn replay(text: &[u8], counts: &mut [u64; kind::OTHER]) -> Outcome {
     let at = first(text);
     if at == text.len() {
         return Outcome::Differs(at, Why::Form);

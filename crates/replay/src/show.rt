@@ -16,7 +16,7 @@ pub(crate) fn field(name: &[u8], n: u64) {
 }
 
 // How many lines of each kind agree.
-pub(crate) fn counts(counts: &[u64; 12]) {
+pub(crate) fn counts(counts: &[u64; kind::OTHER]) {
     field(b": push ", counts[kind::PUSH]);
     field(b", packet ", counts[kind::PACKET]);
     field(b", wake ", counts[kind::WAKE]);

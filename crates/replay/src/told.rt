@@ -69,7 +69,7 @@ fn refused(call: Call) -> bool {
 
 // `number N`.
 fn number(line: &[u8], mut call: Call) -> Told {
-    if text::rest(line) != 1 {
+    if call.numbered | (text::rest(line) != 1) {
         return Told::Differs(Why::Form);
     }
     let Value::Is(n) = value::number(line, 1) else {
@@ -95,7 +95,7 @@ fn mark(line: &[u8]) -> Value {
 
 // `woke yes` or `woke no`.
 fn woke(line: &[u8], mut call: Call) -> Told {
-    if call.kind != kind::PACKET {
+    if call.woke | (call.kind != kind::PACKET) {
         return Told::Differs(Why::Form);
     }
     let Value::Is(mark) = mark(line) else {
@@ -110,7 +110,7 @@ fn woke(line: &[u8], mut call: Call) -> Told {
 
 // `woke unseen`, which any mark agrees with.
 fn unseen(mut call: Call) -> Told {
-    if call.kind != kind::PACKET {
+    if call.woke | (call.kind != kind::PACKET) {
         return Told::Differs(Why::Form);
     }
     call.woke = true;
@@ -152,7 +152,7 @@ fn shown(line: &[u8], mut call: Call, out: &[u8]) -> Told {
     if call.number != 0 {
         return Told::Differs(Why::Nothing);
     }
-    if text::rest(line) != shown::words(call.kind) {
+    if call.shown | (text::rest(line) != shown::words(call.kind)) {
         return Told::Differs(Why::Form);
     }
     let wrong = shown::wrong(line, call.kind, out);
@@ -163,7 +163,7 @@ fn shown(line: &[u8], mut call: Call, out: &[u8]) -> Told {
     Told::Same(call)
 }
 
-// A line of that kind, which tells of the call: `run` and `out` are what the library wrote. A refusal is told first, and
+// A line of that kind, which tells of the call: `run` and `out` are what the library wrote. A refusal is told first, and but for packets each thing once;
 // nothing is told before the first call, whose place a call of no kind takes.
 pub(crate) fn line(line: &[u8], kind: usize, call: Call, run: &[u8], out: &[u8]) -> Told {
     if (kind == kind::OTHER) | (call.kind == kind::OTHER) {

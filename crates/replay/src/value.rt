@@ -1,5 +1,6 @@
 // What the words of a list say: numbers and bytes.
 
+use crate::room;
 use crate::text;
 ghost use Prim.Native.Nat.{_≤_};
 
@@ -178,7 +179,7 @@ pub(crate) fn joined(s: &[u8]) -> u64 {
 
 // Whether word k says the n bytes of s from a on.
 pub(crate) fn is_bytes(line: &[u8], k: usize, s: &[u8], a: usize, n: usize) -> bool {
-    let mut out = [0u8; 32500];
+    let mut out = [0u8; room::MESSAGE];
     let Value::Is(m) = bytes(line, k, &mut out) else {
         return false;
     };

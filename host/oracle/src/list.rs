@@ -179,17 +179,18 @@ fn read_line(entries: &mut Vec<Entry>, words: &[&str]) -> Option<()> {
     Some(())
 }
 
+/// Reads what the original put out for a call: packets, and of all else one line each.
 fn read_said(entry: &mut Entry, words: &[&str]) -> Option<()> {
     let said = &mut entry.said;
     match (&entry.call, words) {
         (_, [">", from, to, bytes]) => {
             said.packets.push(Packet { from: array(from)?, to: array(to)?, bytes: unpack(bytes)? })
         }
-        (Call::Packet(_), ["woke", "yes"]) => said.woke = Some(Woke::Yes),
-        (Call::Packet(_), ["woke", "no"]) => said.woke = Some(Woke::No),
-        (Call::Packet(_), ["woke", "unseen"]) => said.woke = Some(Woke::Unseen),
-        (_, ["number", number]) => said.number = number.parse().ok()?,
-        (Call::Report(_), ["=", to, state, started, sent, acked, created, end, length]) => {
+        (Call::Packet(_), ["woke", seen]) if said.woke.is_none() => said.woke = Some(woke(seen)?),
+        (_, ["number", number]) if said.number == 0 => said.number = number.parse().ok()?,
+        (Call::Report(_), ["=", to, state, started, sent, acked, created, end, length])
+            if said.report.is_none() =>
+        {
             said.report = Some(Report {
                 to: array(to)?,
                 state: state.parse().ok()?,
@@ -199,7 +200,7 @@ fn read_said(entry: &mut Entry, words: &[&str]) -> Option<()> {
                 length: length.parse().ok()?,
             });
         }
-        (Call::Take, ["=", id, reply, from, to, topic, data]) => {
+        (Call::Take, ["=", id, reply, from, to, topic, data]) if said.taken.is_none() => {
             said.taken = Some(Taken {
                 id: array(id)?,
                 reply: flag(reply)?,
@@ -212,6 +213,15 @@ fn read_said(entry: &mut Entry, words: &[&str]) -> Option<()> {
         _ => return None,
     }
     Some(())
+}
+
+fn woke(word: &str) -> Option<Woke> {
+    match word {
+        "yes" => Some(Woke::Yes),
+        "no" => Some(Woke::No),
+        "unseen" => Some(Woke::Unseen),
+        _ => None,
+    }
 }
 
 fn flag(word: &str) -> Option<bool> {

@@ -7,7 +7,7 @@ use Rattle.replay.proofs.list.play.Statement.{statement}
 use Rattle.replay.proofs.list.play.Tie as tie
 
 abbrev Inv-loop : tie.InvT-loop
-Inv-loop text start me recv₀ send₀ counts₀ run₀ out₀ s₀ at₀ recv send counts run out s at = (at ≤ length text) × (length recv ≡ length recv₀) × (length send ≡ length send₀) × (length run ≡ 34250) × (length out ≡ 32828)
+Inv-loop text start me recv₀ send₀ counts₀ run₀ out₀ s₀ at₀ recv send counts run out s at = (at ≤ length text) × (length recv ≡ length recv₀) × (length send ≡ length send₀) × (length run ≡ length run₀) × (length out ≡ length out₀)
 
 abbrev μ-loop : tie.MeasureT-loop
 μ-loop text start me recv₀ send₀ counts₀ run₀ out₀ s₀ at₀ recv send counts run out s at = length text - at

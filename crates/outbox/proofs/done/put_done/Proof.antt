@@ -18,4 +18,4 @@ returns c = done-here _ _ (c .before .before .before .before .before .before .be
 pub put-done-spec : {M : Type 1} → statement M
 put-done-spec =
     tie.close
-    (tie.spec (λ c κs. search needs) (λ c κs. search needs) (λ c κs. search needs) (λ c κs. search needs) (λ c κs. search needs) (λ c. search needs) put-done-requires (λ c. search needs) (λ c. search needs) (λ c. search needs) returns)
+    (tie.spec (λ c κs. search needs) (λ c κs. search needs) (λ c κs. search needs) (λ c κs. search needs) (λ c κs. search needs) (λ c. search needs) put-done-requires (λ c. search needs) (λ c. search needs) returns)

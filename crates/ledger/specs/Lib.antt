@@ -16,6 +16,8 @@ pub mod Demand
 -- nothing earlier and no other id
 pub mod Deeds
 pub mod Own
+-- oldest first, each once
+pub mod InOrder
 -- worked runs
 pub mod Packets
 pub mod Example

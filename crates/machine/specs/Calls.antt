@@ -14,6 +14,8 @@ use Rattle.packet.specs.declared.header.Kind.{Kind}
 use Rattle.packet.specs.declared.header.Kind.the-variants.{Init, Chunk, Done, Read, Aborted, AckInit, AckChunk, AckDone, Nothing}
 use Rattle.packet.specs.Frame.{has, replyFlag, kindOf, idOf, flagsOf, initLength, initTopic, chunkIndex, chunkOffset, chunkSize, piece, doneCount, doneSum}
 use Rattle.packet.specs.Outgoing.{entry, replyPacket, readPacket, initReply, chunkReply, doneReply}
+use Rattle.topic.specs.Admission.{numberOf}
+use Rattle.topic.specs.declared.book.Admission.the-variants.{Malformed, Closed}
 use Rattle.machine.specs.Limits.{longest, largestTopic, leastPiece, recBytes, slotsOf, topOf}
 use Rattle.machine.specs.Codes.{roleReceive, roleSend, stateInit, stateInProgress, stateReceived, stateRead, pieceStarted, pieceSent, pieceAcked}
 use Rattle.machine.specs.Values.{Head, Cell, Rec, Store, Key}
@@ -84,7 +86,10 @@ initHead p = record {
 
 -- init 3, 4; "reply inits skip" the rule book
 abbrev pub rulesRow : Packet → Refusals
-rulesRow p = (isReply p || wellFormed (p .rules), 3) ∷ (isReply p || admits (p .rules) (initTopic (p .frame)) (p .from), 4) ∷ []
+rulesRow p =
+    (isReply p || wellFormed (p .rules), numberOf Malformed)
+    ∷ (isReply p || admits (p .rules) (initTopic (p .frame)) (p .from), numberOf Closed)
+    ∷ []
 
 -- init 3, 4, 5, 6, 7
 abbrev pub initRow : Packet → Store → Refusals
@@ -186,17 +191,20 @@ sendStep Nothing p s = s
 abbrev pub replied : ℕ → Packet → List ℕ
 replied n p = entry (p .to) (p .from) (replyPacket n (p .frame))
 
--- "Reply: first 21 bytes", 36, 52
-unfoldable pub kindOut : Kind → Packet → List ℕ
-kindOut Init p = replied initReply p
-kindOut Chunk p = replied chunkReply p
-kindOut Done p = replied doneReply p
-kindOut Read p = []
-kindOut Aborted p = []
-kindOut AckInit p = []
-kindOut AckChunk p = []
-kindOut AckDone p = []
-kindOut Nothing p = []
+-- "Reply: first 21 bytes", 36, 52; 0 for none
+abbrev pub replyBytes : Kind → ℕ
+replyBytes Init = initReply
+replyBytes Chunk = chunkReply
+replyBytes Done = doneReply
+replyBytes Read = 0
+replyBytes Aborted = 0
+replyBytes AckInit = 0
+replyBytes AckChunk = 0
+replyBytes AckDone = 0
+replyBytes Nothing = 0
+
+abbrev pub kindOut : Kind → Packet → List ℕ
+kindOut k p = cond (eqb (replyBytes k) 0) [] (replied (replyBytes k) p)
 
 -- "Accepted ack init and ack chunk set the wake mark"
 unfoldable pub kindWake : Kind → ℕ

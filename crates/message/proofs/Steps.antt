@@ -19,11 +19,12 @@ use Rattle.machine.specs.Layout.{encode, decode}
 use Rattle.machine.specs.Receive.{found, initStep, chunkStep, doneStep, dropStep}
 use Rattle.machine.specs.Send.{change, withState, ackPiece}
 use Rattle.machine.specs.Refusals.{refusal}
-use Rattle.machine.specs.Calls.{Packet, kind, yes, heldRow, initRow, initHead, chunkRow, doneRow, stateRow, ackChunkRow, kindRow, recvStep, sendStep, replied, kindOut, frameBytes, arrival}
+use Rattle.machine.specs.Calls.{Packet, kind, yes, heldRow, initRow, initHead, chunkRow, doneRow, stateRow, ackChunkRow, kindRow, recvStep, sendStep, replied, kindOut, frameBytes, arrival, replyBytes}
+use borrow.Author.Tests.{eq-eqb, ne-eqb}
 use Rattle.laws.specs.SoundValid.{sound-valid}
 use Rattle.store.specs.HeldAt.{Receives, Sends}
 use Rattle.store.specs.Refuse.{stepped}
-use Rattle.message.specs.Both.{Both, bothOf, both, replyBytes, replyOut}
+use Rattle.message.specs.Both.{Both, bothOf, both, replyOut}
 
 -- a kind that is told
 pub told : (p : Packet) (b c : List ℕ) (k : Kind) (x : Both) → kind p ≡ k → x ≡ bothOf k p b c → x ≡ both p b c
@@ -92,28 +93,10 @@ module _ (p : Packet) (b c : List ℕ) where
 
 -- a kind without a reply, and one with
 pub no-reply : (k : Kind) (p : Packet) → replyBytes k ≡ 0 → kindOut k p ≡ []
-unfolding kindOut
-no-reply Init p e = absurd (omega arith)
-no-reply Chunk p e = absurd (omega arith)
-no-reply Done p e = absurd (omega arith)
-no-reply Read p e = refl
-no-reply Aborted p e = refl
-no-reply AckInit p e = refl
-no-reply AckChunk p e = refl
-no-reply AckDone p e = refl
-no-reply Nothing p e = refl
+no-reply k p e = rw (eq-eqb (replyBytes k) 0 e)
 
 pub some-reply : (k : Kind) (p : Packet) → (replyBytes k ≡ 0 → ⊥) → kindOut k p ≡ replied (replyBytes k) p
-unfolding kindOut
-some-reply Init p e = refl
-some-reply Chunk p e = refl
-some-reply Done p e = refl
-some-reply Read p e = absurd (e refl)
-some-reply Aborted p e = absurd (e refl)
-some-reply AckInit p e = absurd (e refl)
-some-reply AckChunk p e = absurd (e refl)
-some-reply AckDone p e = absurd (e refl)
-some-reply Nothing p e = absurd (e refl)
+some-reply k p e = rw (ne-eqb (replyBytes k) 0 e)
 
 -- it keeps the header's flags, and fits the buffer
 pub reply-least : (k : Kind) → (replyBytes k ≡ 0 → ⊥) → 9 ≤ replyBytes k
@@ -164,13 +147,4 @@ module _ (frame from to run : List ℕ) (n : ℕ) (e : n ≡ replyBytes (kindOf 
 
 -- rule book and key mark do not enter the reply
 pub same-out : (k : Kind) (frame from to rules : List ℕ) (known : ℕ) → kindOut k (arrival frame from to [] 0) ≡ kindOut k (arrival frame from to rules known)
-unfolding kindOut
-same-out Init frame from to rules known = refl
-same-out Chunk frame from to rules known = refl
-same-out Done frame from to rules known = refl
-same-out Read frame from to rules known = refl
-same-out Aborted frame from to rules known = refl
-same-out AckInit frame from to rules known = refl
-same-out AckChunk frame from to rules known = refl
-same-out AckDone frame from to rules known = refl
-same-out Nothing frame from to rules known = refl
+same-out k frame from to rules known = refl

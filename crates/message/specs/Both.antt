@@ -4,8 +4,6 @@ use mathlib.Core.Bool.{cond}
 use mathlib.Core.List.{List, []}
 use lib.Dec.{eqb}
 use Rattle.packet.specs.declared.header.Kind.{Kind}
-use Rattle.packet.specs.declared.header.Kind.the-variants.{Init, Chunk, Done, Read, Aborted, AckInit, AckChunk, AckDone, Nothing}
-use Rattle.packet.specs.Outgoing.{initReply, chunkReply, doneReply}
 use Rattle.machine.specs.Layout.{encode, decode}
 use Rattle.machine.specs.Refusals.{refusal}
 use Rattle.machine.specs.Calls.{Packet, kind, kindRow, recvStep, sendStep, kindOut, arrival}
@@ -26,18 +24,6 @@ bothOf k p recv send = record {
 
 abbrev pub both : Packet → List ℕ → List ℕ → Both
 both p recv send = bothOf (kind p) p recv send
-
--- the bytes of the frame that the reply to a kind keeps
-abbrev pub replyBytes : Kind → ℕ
-replyBytes Init = initReply
-replyBytes Chunk = chunkReply
-replyBytes Done = doneReply
-replyBytes Read = 0
-replyBytes Aborted = 0
-replyBytes AckInit = 0
-replyBytes AckChunk = 0
-replyBytes AckDone = 0
-replyBytes Nothing = 0
 
 -- the reply to a packet
 abbrev pub replyOut : List ℕ → List ℕ → List ℕ → List ℕ

@@ -13,9 +13,9 @@ ghost use Prim.Native.Nat.{_≤_};
 ghost use lib.ListN.{length};
 ghost use Rattle.octets.specs.Octets.{put};
 ghost use Rattle.packet.specs.Frame.{kindOf, flagsOf};
-ghost use Rattle.machine.specs.Calls.{frameBytes, packetRoom, isKind, kindWake, arrival};
+ghost use Rattle.machine.specs.Calls.{frameBytes, packetRoom, isKind, kindWake, arrival, replyBytes};
 ghost use Rattle.store.specs.HeldAt.{Receives, Sends};
-ghost use Rattle.message.specs.Both.{both, replyBytes, replyOut};
+ghost use Rattle.message.specs.Both.{both, replyOut};
 
 // The bytes of the frame that each reply keeps: up to an init's topic, up to a chunk's piece, all of a done.
 const INIT_REPLY: usize = MessageInit::TOPIC;

@@ -36,9 +36,9 @@ key-is b x o e =
     part-of b (o + idAt) (o + idAt + idWidth) idWidth (omega arith) ∙ ap (λ (n : ℕ). part b (n + idAt) idWidth) e
     ∙ sym (part-part b (recOff x) recBytes idAt idWidth (omega arith))
 
--- the row that starts there
-pub row-is : (b : List ℕ) (x o : ℕ) → o ≡ recOff x → take (o + recBytes - o) (drop o b) ≡ recAt b x
-row-is b x o e = part-of b o (o + recBytes) recBytes (omega arith) ∙ ap (λ (n : ℕ). part b n recBytes) e
+-- the row of n bytes that starts at k
+pub row-is : (b : List ℕ) (o k n : ℕ) → o ≡ k → take (o + n - o) (drop o b) ≡ part b k n
+row-is b o k n e = part-of b o (o + n) n (omega arith) ∙ ap (λ (m : ℕ). part b m n) e
 
 -- the pieces of the record at x, as the code asks for them
 module _ (b : List ℕ) (x first : ℕ) (row : List ℕ) (e : row ≡ recAt b x) (f : first ≡ getD row firstCellAt 0) where

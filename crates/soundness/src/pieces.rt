@@ -80,7 +80,7 @@ fn cell(s: &[u8], cells: usize, x: usize) -> &[u8]
     requires { ⌜ Room cells (now s) × (0 < x) × (x ≤ cells) ⌝ }
     ensures { λ r. ⌜ now r ≡ cellAt (now (s .entry)) x ⌝ }
 {
-    let off = rows::cell::FIRST + rows::cell::BYTES * (x - 1);
+    let off = rows::cell::cell_at(x);
     &s[off..off + rows::cell::BYTES]
 }
 

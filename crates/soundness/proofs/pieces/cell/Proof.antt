@@ -1,19 +1,12 @@
 -- The part of the store is the row. Assumes nothing.
-use native.Mathlib.Omega.{arith}
-use Prim.Native.Nat.{_+_}
-use Rattle.octets.specs.Parts.{part-of}
 use Rattle.machine.specs.Limits.{cellBytes}
-use Rattle.machine.specs.Layout.{cellOff}
+use Rattle.soundness.proofs.Rests.{row-is}
 use borrow.Author.Needs.{needs}
 use Rattle.soundness.proofs.pieces.cell.Statement.{statement}
 use Rattle.soundness.proofs.pieces.cell.Tie as tie
 
 returns : tie.Need-returns
-returns c =
-    let start = c .before in
-    part-of (start .args .s .now) (cellOff (start .args .x)) (cellOff (start .args .x) + cellBytes) cellBytes (omega arith)
+returns c = row-is _ _ _ cellBytes (c .before .cell-at .ensures)
 
 pub cell-spec : {M : Type 1} → statement M
-cell-spec =
-    tie.close
-    (tie.spec (λ c. search needs) (λ c. search needs) (λ c. search needs) (λ c. search needs) (λ c. search needs) (λ c. search needs) (λ c. search needs) returns)
+cell-spec = tie.close (tie.spec (λ c κs. search needs) (λ c. search needs) (λ c. search needs) (λ c. search needs) (λ c. search needs) returns)

@@ -1,6 +1,7 @@
 -- The fields are read from the record's row. Assumes nothing.
 use Rattle.soundness.proofs.Rests.{row-is, record-reads, record-asks}
 use borrow.Author.Needs.{needs}
+use Rattle.machine.specs.Limits.{recBytes}
 use Rattle.soundness.proofs.records.has_pieces.Statement.{statement}
 use Rattle.soundness.proofs.records.has_pieces.Tie as tie
 
@@ -9,14 +10,14 @@ fit-requires c κs =
     let small = c .before .before .before in
     let row = small .before .before .before in
     let start = row .before .before in
-    (start .pre .0, record-reads (start .args .s .now) (start .args .x) _ _ (row-is _ _ _ (row .record-at .ensures)) (small .small .ensures .0) _ (start .pre .2))
+    (start .pre .0, record-reads (start .args .s .now) (start .args .x) _ _ (row-is _ _ _ recBytes (row .record-at .ensures)) (small .small .ensures .0) _ (start .pre .2))
 
 returns : tie.Need-returns
 returns c =
     let small = c .before .before .before .before in
     let row = small .before .before .before in
     let start = row .before .before in
-    record-asks (start .args .s .now) (start .args .x) _ _ (row-is _ _ _ (row .record-at .ensures)) (small .small .ensures .0) _ _ _ _
+    record-asks (start .args .s .now) (start .args .x) _ _ (row-is _ _ _ recBytes (row .record-at .ensures)) (small .small .ensures .0) _ _ _ _
     (c .before .before .wide .ensures .0) (c .before .get64 .ensures) (c .fit .ensures)
 
 pub has-pieces-spec : {M : Type 1} → statement M

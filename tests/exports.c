@@ -1,5 +1,5 @@
-/* Calls each export of the library once from C, on a message of one piece that goes from a tablet to the office. Exits with 0 and a last line 'N passed'
- * if every answer is the expected one. */
+/* Calls every export of the library from C, on a message of one piece that goes from a tablet to the office. Exits with 0 and a last line
+ * 'N passed, 0 failed' if every answer is the expected one. */
 #include <stdio.h>
 #include <string.h>
 

@@ -1,7 +1,12 @@
 /* Socketlemon: message transfer on two byte stores that the caller lends. docs/PROTOCOL.md says what each call does.
  *
- * A byte slice is a pointer and a length; a pointer may be any non-null address where the length is 0. Slices that are written must not overlap
- * with any other argument. A number that means yes or no is yes when it is not 0. Link with libsocketlemon.a (`rt staticlib socketlemon`). */
+ * Bytes of any content, and slices of any length, get an answer. What a call cannot check, its caller answers for:
+ * - A byte slice is a pointer and a length, and the pointer leads to that many bytes, which may be read, and written
+ *   where the parameter is not const. Where the length is 0, the pointer may be any address but NULL.
+ * - `id` leads to 8 bytes, `from` and `to` to 16 each: they have no length.
+ * - A slice that is written (no const) does not overlap with any other argument.
+ *
+ * A number that means yes or no is yes when it is not 0. Link with libsocketlemon.a (`rt staticlib socketlemon`). */
 #ifndef SOCKETLEMON_H
 #define SOCKETLEMON_H
 
@@ -12,13 +17,41 @@
 extern "C" {
 #endif
 
-/* What a call answers: the number (0: done, else a refusal of docs/PROTOCOL.md, which changed nothing), how many bytes of the run were written, and
- * whether all senders should wake. */
+/* What a call answers: the number (0: done, else one of the refusals below, which changed nothing), how many bytes of
+ * the run were written, and whether all senders should wake. */
 typedef struct {
     uint64_t number;
     uint64_t run;
     uint64_t wake;
 } socketlemon_answer;
+
+/* The refusals, by the trade words of docs/PROTOCOL.md, which says when each is answered; how many there are. */
+#define SOCKETLEMON_BAD_FRAME 1
+#define SOCKETLEMON_SHORT_OUTPUT 2
+#define SOCKETLEMON_BAD_RULES 3
+#define SOCKETLEMON_CLOSED_TOPIC 4
+#define SOCKETLEMON_ALREADY_WHOLE 5
+#define SOCKETLEMON_TOO_LONG 6
+#define SOCKETLEMON_NO_RECORD 7
+#define SOCKETLEMON_UNKNOWN_ID 8
+#define SOCKETLEMON_PAST_END 9
+#define SOCKETLEMON_HIGH_INDEX 10
+#define SOCKETLEMON_SHORT_PIECE 11
+#define SOCKETLEMON_NO_CELL 12
+#define SOCKETLEMON_COUNT 13
+#define SOCKETLEMON_GAP 14
+#define SOCKETLEMON_TOTAL 15
+#define SOCKETLEMON_SUM 16
+#define SOCKETLEMON_NO_KEY 17
+#define SOCKETLEMON_WRONG_STATE 18
+#define SOCKETLEMON_NO_SUCH_PIECE 19
+#define SOCKETLEMON_NO_WORK 20
+#define SOCKETLEMON_TOPIC_TOO_LARGE 21
+#define SOCKETLEMON_ID_IN_USE 22
+#define SOCKETLEMON_NONE_WHOLE 23
+#define SOCKETLEMON_CLOCK 24
+#define SOCKETLEMON_UNSOUND_STORE 25
+#define SOCKETLEMON_REFUSALS 25
 
 /* The bytes of a store with `cells` cells, 1 to 45. */
 #define SOCKETLEMON_STORE_BYTES(cells) (16 + 8 * 328 + 1380 * (size_t)(cells))
@@ -26,7 +59,8 @@ typedef struct {
 #define SOCKETLEMON_RECEIVE 1
 #define SOCKETLEMON_SEND 2
 
-/* The bytes of a frame, and of the run, report and address buffers that are always enough; take's data buffer needs 328 more than the message has. */
+/* The bytes of a frame, and of the run, report and address buffers that are always enough; take's data buffer needs 328
+ * more than the message has. */
 #define SOCKETLEMON_FRAME 1400
 #define SOCKETLEMON_PACKET_RUN 86
 #define SOCKETLEMON_PUSH_RUN 310
@@ -42,7 +76,8 @@ socketlemon_answer socketlemon_setup(uint8_t *store, size_t store_len, uint64_t 
 /* Writes the address of a public key of 32 bytes. */
 socketlemon_answer socketlemon_address(const uint8_t *key, size_t key_len, uint8_t *out, size_t out_len);
 
-/* Handles a packet that came in from `from` (16 bytes) to `to` (16 bytes); `known` says whether the key of the source in the id's record is known. */
+/* Handles a packet that came in from `from` (16 bytes) to `to` (16 bytes); `known` says whether the key of the source in
+ * the id's record is known. */
 socketlemon_answer socketlemon_packet(uint8_t *recv, size_t recv_len, uint8_t *send, size_t send_len, const uint8_t *frame, size_t frame_len,
                                       const uint8_t *from, const uint8_t *to, const uint8_t *rules, size_t rules_len, uint64_t known, uint8_t *run,
                                       size_t run_len);

@@ -54,11 +54,11 @@ int main(void) {
     expect("an address starts with 4 or 5", (here[0] & 0xfe) == 4);
     key[0] = 9;
     expect("address of the tablet", answers(socketlemon_address(key, sizeof key, there, sizeof there), 0, 0, 0));
-    expect("a short key", answers(socketlemon_address(key, 31, there, sizeof there), 1, 0, 0));
+    expect("a short key", answers(socketlemon_address(key, 31, there, sizeof there), SOCKETLEMON_BAD_FRAME, 0, 0));
     expect("setup", answers(socketlemon_setup(office, STORE, SOCKETLEMON_RECEIVE), 0, 0, 0));
     expect("setup of the others", socketlemon_setup(unused_send, STORE, 2).number + socketlemon_setup(tablet, STORE, 2).number +
                                           socketlemon_setup(unused_recv, STORE, 1).number == 0);
-    expect("setup of a length that is none", answers(socketlemon_setup(office, STORE - 1, 1), 25, 0, 0));
+    expect("setup of a length that is none", answers(socketlemon_setup(office, STORE - 1, 1), SOCKETLEMON_UNSOUND_STORE, 0, 0));
 
     expect("push", answers(socketlemon_push(tablet, STORE, id, 0, there, here, (const uint8_t *)"ducts", 5, message, sizeof message, 5000, 60000, run,
                                             sizeof run), 0, 60, 0));
@@ -82,10 +82,11 @@ int main(void) {
     expect("the message is what was pushed", memcmp(data + 328, message, sizeof message) == 0 && memcmp(data + 8, id, sizeof id) == 0);
     first_packet(run);
     expect("read", answers(to_tablet(), 0, 0, 0));
-    expect("nothing left to take", answers(socketlemon_take(office, STORE, data, sizeof data, run, sizeof run), 23, 0, 0));
+    expect("nothing left to take",
+           answers(socketlemon_take(office, STORE, data, sizeof data, run, sizeof run), SOCKETLEMON_NONE_WHOLE, 0, 0));
     expect("first deadline", answers(socketlemon_wake(tablet, STORE, 2, id, 9000, run, sizeof run), 0, 0, 0));
     expect("second deadline", answers(socketlemon_wake(tablet, STORE, 2, id, 9000, run, sizeof run), 0, 0, 0));
-    expect("the id is gone", answers(socketlemon_report(tablet, STORE, id, report, sizeof report), 8, 0, 0));
+    expect("the id is gone", answers(socketlemon_report(tablet, STORE, id, report, sizeof report), SOCKETLEMON_UNKNOWN_ID, 0, 0));
     printf("%d passed, %d failed\n", passed, failed);
     return failed != 0;
 }

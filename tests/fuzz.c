@@ -1,13 +1,14 @@
-/* Feeds random and mutated bytes, lengths, stores and numbers to every export, and checks of each answer: the number is one of document 01's, the run fits its
- * buffer, bytes past what was written stay, and a refusal changed nothing. Use: fuzz [SEED [ROUNDS [MET]]]; under valgrind it also shows that nothing outside the
- * buffers is touched, for each lies in an allocation of its own. Exits with 0 if every answer was right and at least MET of the 25 refusals were met. */
+/* Feeds random and mutated bytes, lengths, stores and numbers to every export, and checks of each answer: the number is one
+ * of docs/PROTOCOL.md's, the run fits its buffer, bytes past what was written stay, and a refusal changed nothing.
+ * Use: fuzz [SEED [ROUNDS [all]]]; under valgrind it also shows that nothing outside the buffers is touched, for each lies in an
+ * allocation of its own. Exits with 0 if every answer was right and, with `all`, every refusal was met. */
 #include <stdio.h>
 #include <stdlib.h>
 #include <string.h>
 
 #include "socketlemon.h"
 
-enum { REFUSALS = 25, RECORD = 328 };
+enum { RECORD = 328 };
 
 typedef struct {
     uint8_t *at, *was;
@@ -16,7 +17,7 @@ typedef struct {
 
 static uint64_t state;
 static unsigned long passed, failed;
-static int met[REFUSALS + 1];
+static int met[SOCKETLEMON_REFUSALS + 1];
 
 static uint64_t next(void) {
     state ^= state << 13;
@@ -55,9 +56,9 @@ static void expect(const char *what, int right) {
     }
 }
 
-/* Whether a number is one of document 01's; it is noted as met. */
+/* Whether a number is one of docs/PROTOCOL.md's; it is noted as met. */
 static int known(uint64_t number) {
-    if (number > REFUSALS) return 0;
+    if (number > SOCKETLEMON_REFUSALS) return 0;
     met[number] = 1;
     return 1;
 }
@@ -187,7 +188,7 @@ static void one_call(buffer *stores) {
         run = make(around(SOCKETLEMON_ADDRESS, 20));
         keep(run);
         socketlemon_answer a = socketlemon_address(key.at, key.len, run.at, run.len);
-        expect("address", known(a.number) && a.number <= 2 && a.run == 0 && a.wake == 0 && same_from(run, a.number ? 0 : SOCKETLEMON_ADDRESS));
+        expect("address", known(a.number) && a.number <= SOCKETLEMON_SHORT_OUTPUT && a.run == 0 && a.wake == 0 && same_from(run, a.number ? 0 : SOCKETLEMON_ADDRESS));
         drop(key);
         break;
     }
@@ -204,7 +205,7 @@ static void sequence(void) {
         uint64_t role = below(10) ? 1 + (uint64_t)i : 3;
         keep(stores[i]);
         socketlemon_answer a = socketlemon_setup(stores[i].at, stores[i].len - less, role);
-        expect("setup", known(a.number) && a.run == 0 && a.wake == 0 && (less || role == 3 ? a.number == 25 && same_from(stores[i], 0) : a.number == 0));
+        expect("setup", known(a.number) && a.run == 0 && a.wake == 0 && (less || role == 3 ? a.number == SOCKETLEMON_UNSOUND_STORE && same_from(stores[i], 0) : a.number == 0));
         if (a.number != 0) socketlemon_setup(stores[i].at, stores[i].len, 1 + (uint64_t)i);
     }
     for (size_t calls = below(120); calls > 0; calls--) one_call(stores);
@@ -220,8 +221,8 @@ static void sequence(void) {
 int main(int argc, char **argv) {
     state = argc > 1 ? strtoull(argv[1], NULL, 0) * 2 + 1 : 1;
     for (unsigned long rounds = argc > 2 ? strtoul(argv[2], NULL, 0) : 300; rounds > 0; rounds--) sequence();
-    int refusals = 0, wanted = argc > 3 ? atoi(argv[3]) : 0;
-    for (int number = 1; number <= REFUSALS; number++) refusals += met[number];
-    printf("%lu answers right, %lu wrong; %d of %d refusals met\n", passed, failed, refusals, REFUSALS);
+    int refusals = 0, wanted = argc > 3 && strcmp(argv[3], "all") == 0 ? SOCKETLEMON_REFUSALS : 0;
+    for (int number = 1; number <= SOCKETLEMON_REFUSALS; number++) refusals += met[number];
+    printf("%lu answers right, %lu wrong; %d of %d refusals met\n", passed, failed, refusals, SOCKETLEMON_REFUSALS);
     return failed != 0 || refusals < wanted;
 }

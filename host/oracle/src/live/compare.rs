@@ -1,7 +1,10 @@
 //! The comparison: a number of seeds, each a fresh node on both sides and a sequence of steps.
 
+use std::num::NonZeroUsize;
+use std::sync::atomic::{AtomicU64, Ordering::Relaxed};
+use std::thread;
+
 use crate::list::List;
-use crate::live::clock;
 use crate::live::coverage::Coverage;
 use crate::live::fault::Fault;
 use crate::live::plan::Plan;
@@ -17,15 +20,41 @@ pub struct Sequences {
     pub fault: Option<Fault>,
 }
 
-/// Runs the sequences; stops at the first difference, with its seed.
+/// Runs the sequences, a thread for each core; stops at a difference and gives the one of the lowest seed, with its seed.
 pub fn compare(sequences: &Sequences, coverage: &mut Coverage) -> Result<(), (u64, Difference)> {
-    let result = (sequences.first..sequences.first + sequences.seeds).try_for_each(|seed| {
-        one(seed, sequences.steps, coverage, sequences.fault)
-            .map(|_| ())
-            .map_err(|difference| (seed, difference))
+    let threads = thread::available_parallelism().map_or(1, NonZeroUsize::get);
+    let differs = AtomicU64::new(u64::MAX);
+    let shares: Vec<Share> = thread::scope(|scope| {
+        let differs = &differs;
+        let running: Vec<_> =
+            (0..threads).map(|nth| scope.spawn(move || share(sequences, nth, threads, differs))).collect();
+        running.into_iter().map(|thread| thread.join().expect("no sequence panics")).collect()
     });
-    clock::release();
-    result
+    let mut found = Vec::new();
+    for (met, difference) in shares {
+        coverage.join(met);
+        found.extend(difference);
+    }
+    found.into_iter().min_by_key(|(seed, _)| *seed).map_or(Ok(()), Err)
+}
+
+/// What a thread has met, and the difference that it has found.
+type Share = (Coverage, Option<(u64, Difference)>);
+
+/// Every so many seeds, from the nth on, up to a difference; `differs` is the lowest seed that is known to have one.
+fn share(sequences: &Sequences, nth: usize, threads: usize, differs: &AtomicU64) -> Share {
+    let mut coverage = Coverage::default();
+    let end = sequences.first + sequences.seeds;
+    for seed in (sequences.first + nth as u64..end).step_by(threads) {
+        if seed > differs.load(Relaxed) {
+            break;
+        }
+        if let Err(difference) = one(seed, sequences.steps, &mut coverage, sequences.fault) {
+            differs.fetch_min(seed, Relaxed);
+            return (coverage, Some((seed, difference)));
+        }
+    }
+    (coverage, None)
 }
 
 /// Runs one seed and gives its list.

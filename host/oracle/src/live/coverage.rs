@@ -49,6 +49,17 @@ const NEEDED: [&str; 21] = [
 ];
 
 impl Coverage {
+    /// Takes over what another part of the run has met.
+    pub fn join(&mut self, other: Coverage) {
+        let Coverage { calls, seen, numbers, flags, lengths, outside } = other;
+        add(&mut self.calls, calls);
+        add(&mut self.seen, seen);
+        add(&mut self.numbers, numbers);
+        add(&mut self.outside, outside);
+        self.flags.extend(flags);
+        self.lengths.extend(lengths);
+    }
+
     /// Something was seen that is no call.
     pub fn saw(&mut self, what: &'static str) {
         *self.seen.entry(what).or_default() += 1;
@@ -146,5 +157,12 @@ impl Coverage {
             self.lengths.len()
         ));
         text + &format!("  packets by number: {numbers}\n  not compared: {outside}\n")
+    }
+}
+
+/// Adds counts to counts.
+fn add<T: Ord>(to: &mut BTreeMap<T, u64>, more: BTreeMap<T, u64>) {
+    for (what, times) in more {
+        *to.entry(what).or_default() += times;
     }
 }

@@ -1,5 +1,6 @@
 # shellcheck shell=bash
-# Sourced by the test scripts: a tally of what passed and what failed. Each script ends with `finish`, so that its last line is 'N passed, M failed'.
+# Sourced by the test scripts: a tally of what passed and what failed. Each script ends with `finish`, so that its last line
+# is 'N passed, M failed'.
 passed=0
 failed=0
 
@@ -13,7 +14,9 @@ count() { # count NAME STATUS: one check
   fi
 }
 
-add() { # add NAME STATUS LOG: the checks of a command, by the last line of what it wrote; one that counted nothing, or failed uncounted, has failed
+# add NAME STATUS LOG: the checks of a command, by the last line of what it wrote; one that counted nothing, or failed
+# uncounted, has failed
+add() {
   local last good=0 bad=0
   last=$(tail -n 1 "$3")
   if [[ $last =~ ^([0-9]+)\ passed,\ ([0-9]+)\ failed$ ]]; then
@@ -34,14 +37,17 @@ add_cargo() { # add_cargo NAME STATUS LOG: the tests of `cargo test`, by its lin
   rm -f "$3.sum"
 }
 
-library() { # the static library as the sources have it now; where SOCKETLEMON_LIB names a folder, the one there
+# library CRATE..: their static libraries as the sources have them now; where SOCKETLEMON_LIB names a folder, those there
+library() {
   [ -n "${SOCKETLEMON_LIB:-}" ] && return
-  local log
+  local log crate
   log=$(mktemp)
-  if ! rt staticlib socketlemon >"$log" 2>&1; then
-    tail -n 3 "$log"
-    count "static library" 1
-  fi
+  for crate in "$@"; do
+    if ! rt staticlib "$crate" >"$log" 2>&1; then
+      tail -n 3 "$log"
+      count "static library of $crate" 1
+    fi
+  done
   rm -f "$log"
 }
 

@@ -1,0 +1,73 @@
+#!/usr/bin/env python3
+"""Checks the papers, every *.md of the repository: no line over 110 columns outside tables and code; every relative link leads to a
+file or folder of the repository, and its #anchor to a heading. tests/papers runs it; the last line is 'N passed, M failed'.
+Use: tools/papers.py"""
+import pathlib
+import re
+import sys
+
+ROOT = pathlib.Path(__file__).resolve().parent.parent
+COLUMNS = 110
+NOT_OURS = {"target", ".git"}
+
+
+def papers():
+    return sorted(p for p in ROOT.rglob("*.md") if not NOT_OURS & set(p.relative_to(ROOT).parts))
+
+
+def prose(paper):
+    """The lines that are no code, with their numbers."""
+    fenced = False
+    for number, line in enumerate(paper.read_text().splitlines(), 1):
+        if line.lstrip().startswith("```"):
+            fenced = not fenced
+        elif not fenced and not line.startswith("    "):
+            yield number, line
+
+
+def anchors(paper):
+    """The anchors of a paper's headings, as the usual renderers make them."""
+    found = []
+    for _, line in prose(paper):
+        if heading := re.match(r"#+ (.*)", line):
+            words = re.sub(r"\[([^]]*)\]\([^)]*\)", r"\1", heading.group(1)).strip().lower()
+            anchor = re.sub(r"[^\w\- ]", "", words).replace(" ", "-")
+            again = found.count(anchor)
+            found.append(f"{anchor}-{again}" if again else anchor)
+    return found
+
+
+def long_lines(paper):
+    for number, line in prose(paper):
+        if len(line) > COLUMNS and not line.lstrip().startswith("|"):
+            yield f"{paper.relative_to(ROOT)}:{number}: {len(line)} columns"
+
+
+def dead_links(paper):
+    for number, line in prose(paper):
+        for link in re.findall(r"\]\(([^)\s]+)\)", re.sub(r"`[^`]*`", "", line)):
+            if re.match(r"[a-z]+:", link):
+                continue
+            name, _, anchor = link.partition("#")
+            place = f"{paper.relative_to(ROOT)}:{number}: {link}"
+            to = (paper.parent / name).resolve() if name else paper
+            if not to.exists() or not to.is_relative_to(ROOT):
+                yield f"{place} leads to no file"
+            elif anchor and (to.suffix != ".md" or anchor not in anchors(to)):
+                yield f"{place} leads to no heading"
+
+
+def main():
+    passed = failed = 0
+    for what, find in ((f"no line over {COLUMNS} columns", long_lines), ("links", dead_links)):
+        faults = [fault for paper in papers() for fault in find(paper)]
+        print("".join(fault + "\n" for fault in faults), end="")
+        failed += bool(faults)
+        passed += not faults
+        print(f"papers: {what}: {'FAILED' if faults else 'ok'}")
+    print(f"{passed} passed, {failed} failed")
+    return failed != 0
+
+
+if __name__ == "__main__":
+    sys.exit(main())

@@ -16,13 +16,14 @@ def papers():
 
 
 def prose(paper):
-    """The lines that are no code, with their numbers."""
-    fenced = False
+    """The lines that are no code, with their numbers. Code is fenced, or indented behind an empty line or other code."""
+    fenced, code_may_start = False, True
     for number, line in enumerate(paper.read_text().splitlines(), 1):
         if line.lstrip().startswith("```"):
             fenced = not fenced
-        elif not fenced and not line.startswith("    "):
+        elif not fenced and not (code_may_start and line.startswith("    ")):
             yield number, line
+            code_may_start = not line.strip()
 
 
 def anchors(paper):

@@ -176,15 +176,22 @@ def page(figures):
     original = figures.find("transfer", "original") is not None
     scans = [2 * store_bytes(CELLS[-1]) / figures.get("scan", form, CELLS[-1]) for form in ("all", "joined")]
     theirs = (
-        "The original's handler is measured by the stream that it takes packets from, from handing a packet out to being asked for the next. Its data plane only keeps what it is given. A node is made "
-        "anew for each call and holds the same messages; it checks no store, which is most of what a call costs here. Its sums are the blake3 crate's with SIMD."
+        """\
+The original's handler is measured by the stream that it takes packets from,
+from handing a packet out to being asked for the next.
+Its data plane only keeps what it is given.
+A node is made anew for each call and holds the same messages;
+it checks no store, which is most of what a call costs here.
+Its sums are the blake3 crate's with SIMD."""
         if original
-        else "The original was not at hand: its columns are left out."
+        else "The original was not available: its columns are left out."
     )
+    runtime = "; the original runs with its runtime" if original else ""
     return f"""# Benchmarks
 
-Written by `./bench` from the estimates of [host/benches](../host/benches): medians, in nanoseconds, of samples so short that other work on the machine interrupts few of them. The two
-figures of a ratio are of one run, measured one after the other.
+Written by `./bench` from the estimates of [host/benches](../host/benches): medians, in nanoseconds,
+of samples so short that other work on the machine interrupts few of them.
+The two figures of a ratio are of one run, measured one after the other.
 
 {machine()}
 ## Bars
@@ -192,16 +199,25 @@ figures of a ratio are of one run, measured one after the other.
 {bars(figures)}
 ## BLAKE3
 
-Against the blake3 crate, by the implementation that it picks: the portable one where SIMD is left out of its build. That is run in three rounds, and the bar is held against the worst.
+Compared with the blake3 crate, by the implementation that it picks:
+the portable one where SIMD is left out of its build.
+That is run in three rounds, and the worst of them has to meet the bar.
 
 {sums(figures)}
 ## Packet calls
 
-Stores of 45 cells. Full: every record and cell is held, but for the one that the call takes. Empty: nothing is held but what the call is about (for a done, its 25 pieces). Every call first checks
-that both stores are sound; a free cell has to be zero in all its bytes, a held one past its piece, so an empty store costs more than a full one.
+Stores of 45 cells.
+Full: every record and cell is held, but for the one that the call takes.
+Empty: nothing is held but what the call is about (for a done, its 25 pieces).
+Every call first checks that both stores are sound; a free cell has to be zero in all its bytes,
+a held one past its piece, so an empty store costs more than a full one.
 
-The scan asks whether as many bytes as both stores have are all zero, by joining them: {scans[1]:.0f} bytes per ns, with SIMD. Stopping at the first byte that is not zero reads {scans[0]:.1f} bytes per ns, one at a time; the bar is held
-against the quicker one. Stores are copied anew before each call, outside the measured time. The clock adds {ns(figures.get("clock", "nothing", 0))} ns to every figure of this part.
+The scan asks whether as many bytes as both stores have are all zero, by joining them:
+{scans[1]:.0f} bytes per ns, with SIMD.
+Stopping at the first byte that is not zero reads {scans[0]:.1f} bytes per ns, one at a time;
+the bar is about the quicker one.
+Stores are copied anew before each call, outside the measured time.
+The clock adds {ns(figures.get("clock", "nothing", 0))} ns to every figure of this part.
 
 {theirs}
 
@@ -218,7 +234,8 @@ Calls without a sum: a read of an unknown id, and a chunk at a held index. In na
 {cells(figures)}
 ## A whole transfer
 
-32,500 bytes from one node to another in memory: push, init, 25 chunks, done, each acknowledged, take, read. Packets are copied into frames on the way, on both sides alike{"; the original runs with its runtime" if original else ""}.
+32,500 bytes from one node to another in memory: push, init, 25 chunks, done, each acknowledged, take, read.
+Packets are copied into frames on the way, on both sides alike{runtime}.
 
 {transfer(figures)}"""
 

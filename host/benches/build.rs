@@ -1,5 +1,5 @@
 //! Finds the archive with the library's BLAKE3, in the folder that SOCKETLEMON_LIB names, else where `rt staticlib` puts it; and asks the oracle whether the
-//! original is at hand.
+//! original is available.
 
 use std::path::{Path, PathBuf};
 use std::{env, process};

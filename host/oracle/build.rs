@@ -1,4 +1,4 @@
-//! Finds the static library, and the original's files if they are at hand.
+//! Finds the static library, and the original's files if they are available.
 //!
 //! The library: in the folder that SOCKETLEMON_LIB names, else where `rt staticlib` puts it. The original: in the folder that SOCKETLEMON_ORIGINAL
 //! names, else in shared/docs/src beside the repository. Its files are copied unchanged, after their BLAKE3 sums were found to be those of original.sums;
@@ -57,7 +57,7 @@ fn take_original(here: &Path) {
             )),
             Err(_) => {
                 return println!(
-                    "cargo:warning=the original is not at hand ({} is missing): no comparison is built",
+                    "cargo:warning=the original is not available ({} is missing): no comparison is built",
                     from.display()
                 )
             }

@@ -33,7 +33,7 @@ struct Options {
     fault: Option<String>,
 }
 
-/// As many sequences as run in about two minutes.
+/// As many sequences as run in about a minute on two cores.
 const SEEDS: u64 = 24_000;
 const STEPS: u64 = 300;
 
@@ -81,7 +81,7 @@ fn replay_files(files: &[String]) -> Result<bool, String> {
 /// Says that there is no original; nothing is compared, which is no difference.
 #[cfg(not(original))]
 fn skipped() -> Result<bool, String> {
-    println!("comparison skipped: the original is not at hand (name the folder of its files in SOCKETLEMON_ORIGINAL and build again)");
+    println!("comparison skipped: the original is not available (name the folder of its files in SOCKETLEMON_ORIGINAL and build again)");
     Ok(true)
 }
 

@@ -1,4 +1,4 @@
-//! The original Rust, compiled unchanged where it is at hand, with what stands in for the rest of its program. The oracle compares with it, the benchmarks run it.
+//! The original Rust, compiled unchanged where it is available, with what stands in for the rest of its program. The oracle compares with it, the benchmarks run it.
 
 pub mod call;
 #[cfg(original)]

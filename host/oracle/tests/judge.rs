@@ -33,7 +33,7 @@ fn what_is_not_understood_is_said() {
 fn without_the_original_the_comparison_is_skipped() {
     let (status, text) = oracle(&["--seeds", "1"]);
     assert_eq!(status, 0, "{text}");
-    assert!(text.starts_with("comparison skipped: the original is not at hand"), "{text}");
+    assert!(text.starts_with("comparison skipped: the original is not available"), "{text}");
 }
 
 #[cfg(original)]

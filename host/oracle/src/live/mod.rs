@@ -1,4 +1,4 @@
-//! The comparison with the original as it runs; built only where the original is at hand.
+//! The comparison with the original as it runs; built only where the original is available.
 
 mod clock;
 pub mod compare;

@@ -1,4 +1,4 @@
-//! Runs the library and the original side by side on a sequence of steps and holds each answer against the other.
+//! Runs the library and the original side by side on a sequence of steps and compares each answer.
 
 use crate::call::{Call, Got, Id, Packet, Said, Setup, Wake, Woke, ACK};
 use crate::frame::{self, Kind};

@@ -1,7 +1,8 @@
 #!/usr/bin/env python3
-"""What crates/transfer and crates/message_values must write, computed by a model of document 01 that has nothing in common with the library:
-dictionaries and lists, no byte stores. Sums come from the b3sum program (Debian's package b3sum) where it is installed, else from the short
-BLAKE3 below; `tools/message_model.py vectors crates/blake3_vectors/data/vectors.txt` checks both on the published vectors.
+"""What crates/transfer and crates/message_values must write, computed by a model of the protocol (docs/PROTOCOL.md) that shares no
+code with the library: dictionaries and lists, no byte stores. Sums come from the b3sum program (Debian's package b3sum) where it is
+installed, else from the short BLAKE3 below; `tools/message_model.py vectors crates/blake3_vectors/data/vectors.txt` checks both on
+the published vectors.
 Use: tools/message_model.py transfer > crates/transfer/stdout, and the same with message_values."""
 import copy
 import shutil

@@ -1,4 +1,4 @@
-"""Document 01's sound stores, as an independent model in Python: sound(bytes, role) and fresh(role, cells)."""
+"""The sound stores of docs/PROTOCOL.md, as an independent model in Python: sound(bytes, role) and fresh(role, cells)."""
 HEAD, NREC, REC, CELL = (16, 8, 328, 1380)
 
 

@@ -1,5 +1,5 @@
 #!/usr/bin/env python3
-"""What crates/wire_values must write, computed without the library: flags by document 01's rule, packets by struct, addresses by the
+"""What crates/wire_values must write, computed without the library: flags by the rule of docs/PROTOCOL.md, packets by struct, addresses by the
 b3sum program (Debian's package b3sum). Use: tools/wire_values.py > crates/wire_values/stdout"""
 import struct
 import subprocess

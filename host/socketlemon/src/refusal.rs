@@ -128,7 +128,7 @@ impl std::error::Error for Refusal {}
 mod tests {
     use super::*;
 
-    /// The table of document 01, copied from there and not from the code.
+    /// The trade words of docs/PROTOCOL.md, copied from there and not from the code.
     const WORDS: [&str; 25] = [
         "bad frame",
         "short output",

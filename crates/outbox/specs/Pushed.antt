@@ -31,7 +31,8 @@ use Rattle.links.specs.Open.{Ready, withFreeCells}
 use Rattle.links.specs.Encodes
 use Rattle.store.specs.Met.{valid, rep}
 use Rattle.store.specs.Established.{free-is}
-use Rattle.store.specs.Opening.{Openable, newRec, openedWith, Opens}
+use Rattle.store.specs.Opening.{Openable, newRec, openedRow, openedWith}
+use Rattle.store.specs.Opened.{open-chain}
 use Rattle.outbox.specs.Pushing.{Pushable, firstPlace}
 
 -- the pieces of the bytes, the cells that stay free, and the bytes of the store with the pieces cut
@@ -125,10 +126,12 @@ module _ (b : List ℕ) (y : Bytes b) (h : Head) (bytes : List ℕ) (g : Pushabl
           (subst (Valid roleSend) with-new (pushed-valid h created end bytes s (g .held) (g .free) (g .cells) fine (g .total) z c e v))
           ∙ ap encode (sym with-new)
 
-    pub push-opened : (m l : List ℕ) (cell : ℕ) → m ≡ cutOf b bytes → cell ≡ firstPlace b (length bytes) → Opens kindLeaving cell h created end m l
-        → l ≡ encode (pushStep h created end bytes s)
+    pub push-opened : (m l : List ℕ) (cell : ℕ) → m ≡ cutOf b bytes → cell ≡ firstPlace b (length bytes)
+        → l ≡ openedRow kindLeaving cell h created end m → l ≡ encode (pushStep h created end bytes s)
     push-opened m l cell w f o =
-        subst (λ (x : List ℕ). Opens kindLeaving cell h created end x l) w o (piecesOf b bytes) (sym (f ∙ first-place)) ∙ go (s .free) refl
+        o ∙ ap (openedRow kindLeaving cell h created end) w
+        ∙ open-chain kindLeaving cell h (g .fits) created end (cutOf b bytes) cut-openable (piecesOf b bytes) (sym (f ∙ first-place))
+        ∙ go (s .free) refl
       where
         go : (l : List ℕ) → s .free ≡ l
             → openedWith kindLeaving (newRec (getD (cutOf b bytes) freeAt 0) h created end (piecesOf b bytes)) (cutOf b bytes) ≡ encode (pushStep h created end bytes s)

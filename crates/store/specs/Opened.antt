@@ -31,7 +31,7 @@ use Rattle.links.specs.Encodes
 use Rattle.steps.specs.Init.{HeadFine, init-valid}
 use Rattle.links.specs.Byte.{first-byte, put-before}
 use Rattle.links.specs.InRange.{sound-rep}
-use Rattle.store.specs.Opening.{Openable, opened, FieldsFit, newRec, frontOf, restOf, newRow, openedWith, Opens, Ready}
+use Rattle.store.specs.Opening.{Openable, opened, FieldsFit, newRec, frontOf, restOf, newRow, openedRow, openedWith, Ready}
 
 -- ---- the row of a new record
 
@@ -115,8 +115,10 @@ module _ (kind cell : ℕ) (h : Head) (z : FieldsFit h) (created end : ℕ) wher
     free-kept : Openable filled
     free-kept = record { some = omega (arith, kept freeAt (omega arith), f .some); small = omega (arith, kept freeAt (omega arith), f .small); long = omega (arith, length-put b (recOff p + 1) row fits, f .long) }
 
-    opened-new : Opens kind cell h created end b (opened filled)
-    opened-new cells e =
+    -- what is written is the record, whatever its pieces are: they start at the place `cell`
+    pub open-chain : (cells : List Cell) → first (map cellPlace cells) ≡ cell
+        → openedRow kind cell h created end b ≡ openedWith kind (newRec p h created end cells) b
+    open-chain cells e =
         let tail : row ≡ recTail kind (newRec p h created end cells) = ap (λ (x : ℕ). newRow kind x h created end) (sym e) ∙ new-row kind h z created end p cells in
         (λ i. put (put filled (recOff (kept freeAt (omega arith) i)) (kept heldAt (omega arith) i ∷ [])) freeAt (getD filled (recOff (kept freeAt (omega arith) i)) 0 ∷ kept freeAt (omega arith) i ∷ []))
         ∙ (λ i. put ((put-before b (recOff p) (getD b heldAt 0) row fits ∙ ap (λ (l : List ℕ). put b (recOff p) (getD b heldAt 0 ∷ l)) tail
@@ -127,8 +129,8 @@ module _ (kind cell : ℕ) (h : Head) (z : FieldsFit h) (created end : ℕ) wher
       pub row-ready : Openable m
       row-ready = subst Openable (sym (filled-is m o e w)) free-kept
 
-      pub row-opens : (l : List ℕ) → l ≡ opened m → Opens kind cell h created end b l
-      row-opens l q cells c = q ∙ ap opened (filled-is m o e w) ∙ opened-new cells c
+      pub row-opens : (l : List ℕ) → l ≡ opened m → l ≡ openedRow kind cell h created end b
+      row-opens l q = q ∙ ap opened (filled-is m o e w)
 
 -- ---- stores
 
@@ -173,8 +175,8 @@ module _ (b : List ℕ) (y : Bytes b) (h : Head) (g : Ready b h) (fine : HeadFin
         ∙ (λ i. put (put b (recOff q) (recRow (sym (ap heldKind (v .inRole)) i) (first (map recPlace (s .held))) (started q h))) freeAt (behind i ∷ q ∷ []))
         ∙ Encodes.init-encode roleReceive b y (g .sound) q qs is h (fine .sized) valid
 
-  pub ready-opened : (b′ : List ℕ) → Opens kindArriving 0 h 0 0 b b′ → b′ ≡ encode (initAt none h s)
-  ready-opened b′ o = o [] refl ∙ go (s .free) refl
+  pub ready-opened : (b′ : List ℕ) → b′ ≡ openedRow kindArriving 0 h 0 0 b → b′ ≡ encode (initAt none h s)
+  ready-opened b′ o = o ∙ open-chain kindArriving 0 h (g .fits) 0 0 b (g .free) [] refl ∙ go (s .free) refl
     where
       go : (l : List ℕ) → s .free ≡ l → openedWith kindArriving (started (getD b freeAt 0) h) b ≡ encode (initAt none h s)
       go [] e = absurd (omega (arith, g .free .some, head-byte roleReceive s v b rep freeAt (omega arith), ap first e))

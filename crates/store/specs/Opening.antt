@@ -2,7 +2,7 @@
 use Prim.Native.Nat.{ℕ, suc, _+_, _-_, _≤_, _<_}
 use mathlib.Core.Path.{_≡_}
 use mathlib.Core.Bool.{Bool, true}
-use mathlib.Core.List.{List, [], _∷_, _++_, map}
+use mathlib.Core.List.{List, [], _∷_, _++_}
 use mathlib.Core.Option.{none}
 use lib.ListN.{length, getD, replicate}
 use Rattle.octets.specs.Octets.{put, be}
@@ -10,8 +10,7 @@ use Rattle.octets.specs.Bools.{one}
 use Rattle.machine.specs.Limits.{longest, largestTopic, recCount, storeBytes, slotsOf}
 use Rattle.machine.specs.Codes.{roleReceive, stateInit}
 use Rattle.machine.specs.Values.{Head, Cell, Rec, keyOf}
-use Rattle.machine.specs.Chains.{first}
-use Rattle.machine.specs.Layout.{freeAt, heldAt, idWidth, addressWidth, numberWidth, recOff, cellPlace, recRow, decode}
+use Rattle.machine.specs.Layout.{freeAt, heldAt, idWidth, addressWidth, numberWidth, recOff, recRow, decode}
 use Rattle.machine.specs.Sound.{sound}
 use Rattle.machine.specs.Receive.{found}
 
@@ -59,16 +58,15 @@ restOf total created end topic = be numberWidth total ++ be numberWidth created 
 abbrev pub newRow : ℕ → ℕ → Head → ℕ → ℕ → List ℕ
 newRow kind cell h created end = frontOf kind cell h ++ restOf (h .total) created end (h .topic)
 
+-- b with that row in the first free record, which becomes the first held
+abbrev pub openedRow : ℕ → ℕ → Head → ℕ → ℕ → List ℕ → List ℕ
+openedRow kind cell h created end b = opened (put b (recOff (getD b freeAt 0) + 1) (newRow kind cell h created end))
+
 -- b with the record r, of a kind, in the first free place, as the first held
 abbrev pub openedWith : ℕ → Rec → List ℕ → List ℕ
 openedWith kind r b =
     put (put b (recOff (getD b freeAt 0)) (recRow kind (getD b heldAt 0) r))
     freeAt (getD b (recOff (getD b freeAt 0)) 0 ∷ getD b freeAt 0 ∷ [])
-
--- b′ is b with a new record, whatever its pieces are: they start at the place `cell`
-abbrev pub Opens : ℕ → ℕ → Head → ℕ → ℕ → List ℕ → List ℕ → Type 0
-Opens kind cell h created end b b′ =
-    (cells : List Cell) → first (map cellPlace cells) ≡ cell → b′ ≡ openedWith kind (newRec (getD b freeAt 0) h created end cells) b
 
 -- a sound receive store with a free record, and a head whose id it does not hold
 pub record Ready (b : List ℕ) (h : Head) : Type 0 where

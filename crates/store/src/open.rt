@@ -14,7 +14,7 @@ ghost use Rattle.machine.specs.Limits.{longest, largestTopic, recBytes, slotsOf
 ghost use Rattle.machine.specs.Codes.{kindLeaving};
 ghost use Rattle.machine.specs.Layout.{totalAt, encode, decode};
 ghost use Rattle.machine.specs.Receive.{initAt};
-ghost use Rattle.store.specs.Opening.{Openable, opened, newHead, FieldsFit, frontOf, restOf, newRow, Opens, Ready};
+ghost use Rattle.store.specs.Opening.{Openable, opened, newHead, FieldsFit, frontOf, restOf, newRow, openedRow, Ready};
 
 // The first free record, in which all but its link is written, becomes the first held.
 pub fn hold(store: &mut [u8])
@@ -140,8 +140,11 @@ fn open_row(
     created: u64,
     end: u64,
 )
-    requires { ⌜ Openable (now store) × FieldsFit (newHead (now id) (now source) (now destination) reply total (now topic)) ⌝ }
-    ensures { λ _. ⌜ Opens kind cell (newHead (now (id .entry)) (now (source .entry)) (now (destination .entry)) reply total (now (topic .entry))) created end (now (store .entry)) (now (store .exit)) ⌝ }
+    requires { ⌜ Openable (now store)
+        × FieldsFit (newHead (now id) (now source) (now destination) reply total (now topic)) ⌝ }
+    ensures { λ _.
+        let h = newHead (now (id .entry)) (now (source .entry)) (now (destination .entry)) reply total (now (topic .entry)) in
+        ⌜ now (store .exit) ≡ openedRow kind cell h created end (now (store .entry)) ⌝ }
 {
     let row = place::rec_off(store[Head::FREE]);
     put_row(
@@ -202,8 +205,11 @@ pub fn open_leaving(
     created: u64,
     end: u64,
 )
-    requires { ⌜ Openable (now store) × FieldsFit (newHead (now id) (now source) (now destination) reply total (now topic)) ⌝ }
-    ensures { λ _. ⌜ Opens kindLeaving cell (newHead (now (id .entry)) (now (source .entry)) (now (destination .entry)) reply total (now (topic .entry))) created end (now (store .entry)) (now (store .exit)) ⌝ }
+    requires { ⌜ Openable (now store)
+        × FieldsFit (newHead (now id) (now source) (now destination) reply total (now topic)) ⌝ }
+    ensures { λ _.
+        let h = newHead (now (id .entry)) (now (source .entry)) (now (destination .entry)) reply total (now (topic .entry)) in
+        ⌜ now (store .exit) ≡ openedRow kindLeaving cell h created end (now (store .entry)) ⌝ }
 {
     open_row(
         store,

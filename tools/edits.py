@@ -122,23 +122,23 @@ class Log:
         self.crate = crate
         # the functions that are not proved, and of these the ones that have no proof file, with what is not closed
         self.unproved, self.open = set(), {}
-        # the errors of a file: (declaration, what is said)
+        # the errors of a file: (declaration, what is said, the lines behind it)
         self.errors = {}
-        notes = {}
+        behind = []
         for line in text.splitlines():
             line = line.replace(place + os.sep, "")
             state = re.match(r"fn (\S+): (not proved|no proof)(.*)", line)
             error = re.match(r"(\S+?):\d+:\d+: error: (?:`([^`]*)`: )?(.*)", line)
-            note = re.match(r"note: (\S+?:\d+):\d+: (it is not proved .*)", line)
+            if line.startswith("  "):
+                behind.append(line.strip())
+                continue
+            behind = []
             if state:
                 self.unproved.add(state[1])
                 if state[2] == "no proof":
                     self.open[state[1]] = state[3].partition("; ")[2]
             elif error:
-                self.errors.setdefault(error[1], []).append((error[2] or "", error[3]))
-            elif note:
-                notes.setdefault(note[1], note[2])
-        self.notes = notes
+                self.errors.setdefault(error[1], []).append((error[2] or "", error[3], behind))
 
     def own(self, name):
         """The first error that a function, or 'FILE LAW', has by itself; None where it has none."""
@@ -157,9 +157,9 @@ class Log:
         return None
 
     def first(self, path, wanted):
-        for law, said in self.errors.get(path, []):
+        for law, said, behind in self.errors.get(path, []):
             if wanted(law) and not any(words in said for words in FOLLOWS):
-                return f"`{law}`: {said}"
+                return "\n".join([f"`{law}`: {said}", *behind])
         return None
 
     def by_themselves(self):
@@ -167,8 +167,13 @@ class Log:
         found = {name for name in self.unproved if self.own(name)}
         for path, errors in self.errors.items():
             if path.startswith("specs/") or (path.startswith("proofs/") and not path.endswith("/Proof.antt")):
-                found |= {f"{path} {law}" for law, said in errors if not any(words in said for words in FOLLOWS)}
+                found |= {f"{path} {law}" for law, said, _ in errors if not any(words in said for words in FOLLOWS)}
         return found
+
+
+def short(line):
+    """A line of an error, which can run to thousands of characters: its start and its end."""
+    return line if len(line) <= 300 else f"{line[:200]} .. {line[-96:]}"
 
 
 def check(show):
@@ -210,7 +215,10 @@ def check(show):
             if show:
                 print(f"{one}: {block.one('because')}")
                 for name in block.refused():
-                    print(f"    {name}: {log.own(name)[:300]}")
+                    first, *behind = log.own(name).splitlines()
+                    print(f"    {name}: {short(first)}")
+                    for line in behind[:4]:
+                        print(f"        {short(line)}")
         meant = {name for block in blocks for name in block.refused()}
         definitions = any(" " in name for name in meant)
         for name in sorted(log.by_themselves() - meant):

@@ -5,8 +5,8 @@ use mathlib.Core.Path.{_≡_, refl, ap, _∙_}
 use mathlib.Core.List.{List, [], _∷_}
 use lib.ListN.{length, getD}
 use Rattle.octets.specs.Octets.{part, put}
-use Rattle.octets.specs.Parts.{length-part}
-use Rattle.octets.specs.Written.{wrote, then}
+use Rattle.octets.specs.PartsLaws.{length-part}
+use Rattle.octets.specs.WrittenLaws.{wrote, then}
 use Rattle.blake3.specs.Tree.{blake3}
 use Rattle.blake3.specs.Laws.{length-blake3}
 use Rattle.address.specs.Address.{firstByte, addressBytes}

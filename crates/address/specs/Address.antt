@@ -1,4 +1,4 @@
--- A node's address from its key: document 01, `PublicKey::address`.
+-- A node's address from its key: PROTOCOL, "Rules and addresses".
 use Prim.Native.Nat.{ℕ, _%_}
 use mathlib.Core.Bool.{cond}
 use mathlib.Core.List.{List, [], _∷_, _++_}
@@ -8,6 +8,8 @@ use lib.Bits.{bitOr}
 use lib.Count.{ones}
 use Rattle.octets.specs.Octets.{part, put}
 use Rattle.blake3.specs.Tree.{blake3}
+use Rattle.machine.specs.Codes.{badFrame, shortOutput}
+use Rattle.machine.specs.Layout.{addressWidth}
 
 -- "byte 0 becomes 4 | (its ones modulo 2)"
 abbrev pub firstByte : ℕ → ℕ
@@ -21,9 +23,13 @@ pub record AddressOutcome : Type 0 where
   pub number : ℕ
   pub out : List ℕ
 
--- address 1, 2: a key that is not 32 bytes, a buffer under 16; else the address at the buffer's start
+-- row 1: a key's bytes
+abbrev pub keyBytes : ℕ
+keyBytes = 32
+
+-- address 1, 2: a key of 32 bytes, a buffer of at least 16; the address goes to the buffer's start
 unfoldable pub addressOf : List ℕ → List ℕ → AddressOutcome
 addressOf key out =
-    cond (eqb (length key) 32)
-    (cond (leb 16 (length out)) (record { number = 0; out = put out 0 (addressBytes key) }) (record { number = 2; out = out }))
-    (record { number = 1; out = out })
+    cond (eqb (length key) keyBytes)
+    (cond (leb addressWidth (length out)) (record { number = 0; out = put out 0 (addressBytes key) }) (record { number = shortOutput; out = out }))
+    (record { number = badFrame; out = out })

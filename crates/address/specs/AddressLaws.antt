@@ -4,13 +4,14 @@ use mathlib.Core.List.{List}
 use Prim.Native.Nat.{ℕ}
 use lib.ListN.{length}
 use lib.Dec.{eqb, leb}
-use Rattle.octets.specs.Bools.{cases}
-use Rattle.address.specs.Address.{addressOf}
+use Rattle.octets.specs.BoolsLaws.{cases}
+use Rattle.machine.specs.Layout.{addressWidth}
+use Rattle.address.specs.Address.{keyBytes, addressOf}
 
 pub address-refused : (key out : List ℕ) → (addressOf key out .number ≡ 0 → ⊥)
     → addressOf key out ≡ record { number = addressOf key out .number; out = out }
 unfolding addressOf
 address-refused key out h =
-    cases (eqb (length key) 32)
-    (λ e. cases (leb 16 (length out)) (λ f. absurd (h (rw (e, f)))) (λ f. rw (e, f)))
+    cases (eqb (length key) keyBytes)
+    (λ e. cases (leb addressWidth (length out)) (λ f. absurd (h (rw (e, f)))) (λ f. rw (e, f)))
     (λ e. rw e)

@@ -1,4 +1,4 @@
-// What a call answers: document 01's number (0: done), the run's length and the wake mark.
+// What a call answers: the number (0: done, else a refusal of PROTOCOL's), the run's length and the wake mark.
 
 ghost use mathlib.Core.Path.{_≡_};
 

@@ -4,4 +4,5 @@ pub mod Words
 pub mod Rounds
 pub mod Compression
 pub mod Tree
+pub mod Split
 pub mod Laws

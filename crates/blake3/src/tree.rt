@@ -4,7 +4,8 @@ ghost use mathlib.Core.Path.{_≡_};
 ghost use Prim.Native.Nat.{_+_, _*_, _<_, _≤_, _^_};
 ghost use lib.ListN.{length};
 ghost use Rattle.blake3.specs.Words.{word};
-ghost use Rattle.blake3.specs.Tree.{chunkLen, wordAt, blockAt, chunkNode, parentNode, node, Left};
+ghost use Rattle.blake3.specs.Tree.{chunkLen, wordAt, blockAt, chunkNode, parentNode, node};
+ghost use Rattle.blake3.specs.Split.{Left};
 use super::node::Node;
 use super::node::chaining;
 

@@ -22,9 +22,10 @@ use Rattle.laws.specs.Chains.{Linked}
 use Rattle.links.specs.Laid.{laid}
 use Rattle.links.specs.Cut.{cutBytes}
 use Rattle.links.specs.InRange.{links}
-use Rattle.store.specs.Met.{valid, rep}
+use Rattle.store.specs.MetLaws.{valid, rep}
 use Rattle.cells.specs.InPlace.{CellIn}
-use Rattle.cells.specs.Cutting.{pieceLaid, piecesLaid, One, lay-one, free-few, free-chain}
+use Rattle.cells.specs.CuttingLaws.{piecesLaid, One, lay-one, free-few, free-chain}
+use Rattle.cells.specs.Laying.{pieceLaid}
 
 -- ---- one piece
 

@@ -9,13 +9,13 @@ use lib.ListN.{getD}
 use lib.Dec.{eqb}
 use borrow.Author.Tests.{eqb-false, ne-eqb}
 use Rattle.octets.specs.Octets.{put}
-use Rattle.octets.specs.Bools.{cases, clash}
+use Rattle.octets.specs.BoolsLaws.{cases, clash}
 use Rattle.machine.specs.Limits.{recCount}
 use Rattle.machine.specs.Layout.{recOff, cellOff, cellRow}
 use Rattle.machine.specs.Pieces.{newCell}
 use Rattle.links.specs.Links.{Links}
 use Rattle.cells.specs.InPlace.{spotFrom, spotIn, indexBehind, holdsIndex, rewritten, grown, inserted, chunked, LinkIn, CellIn}
-use Rattle.cells.specs.Read.{cell-in}
+use Rattle.cells.specs.ReadLaws.{cell-in}
 
 pub grow-written : (b b1 : List ℕ) (at k i x slots : ℕ) → at ≡ recOff k → x ≡ getD b (at + 7) 0 → slots ≡ max x (i + 1) → b1 ≡ put b (at + 7) (slots ∷ []) → b1 ≡ grown b k i
 grow-written b b1 at k i x slots q y n e =

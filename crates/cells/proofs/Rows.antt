@@ -5,8 +5,8 @@ use mathlib.Core.Path.{_≡_, refl, sym, ap, _∙_}
 use mathlib.Core.List.{List, [], _∷_, _++_, append-nil}
 use lib.ListN.{length, replicate, length-replicate}
 use Rattle.octets.specs.Octets.{put, be}
-use Rattle.octets.specs.Numbers.{length-be}
-use Rattle.octets.specs.Written.{wrote, then}
+use Rattle.octets.specs.NumbersLaws.{length-be}
+use Rattle.octets.specs.WrittenLaws.{wrote, then}
 use Rattle.machine.specs.Limits.{cellBytes}
 use Rattle.machine.specs.Layout.{cellOff, cellRow}
 use Rattle.machine.specs.Pieces.{newCell}

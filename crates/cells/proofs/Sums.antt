@@ -5,7 +5,7 @@ use mathlib.Core.Path.{_≡_, ap, _∙_}
 use mathlib.Core.List.{List}
 use lib.ListN.{length, take, drop}
 use Rattle.octets.specs.Octets.{part, put}
-use Rattle.octets.specs.Parts.{part-of, part-put-same}
+use Rattle.octets.specs.PartsLaws.{part-of, part-put-same}
 use Rattle.machine.specs.Values.{Cell}
 use Rattle.machine.specs.Sound.{sizes}
 use Rattle.machine.specs.Pieces.{joined}

@@ -9,7 +9,7 @@ use lib.Dec.{eqb, leb}
 use borrow.Author.Tests.{eq-eqb, ne-eqb, le-leb, lt-leb}
 use Rattle.octets.specs.Octets.{part, put, num}
 use Rattle.octets.specs.Bools.{one}
-use Rattle.octets.specs.Parts.{put-nil, put-put, part-of}
+use Rattle.octets.specs.PartsLaws.{put-nil, put-put, part-of}
 use Rattle.machine.specs.Limits.{cellBytes, mostCells}
 use Rattle.machine.specs.Values.{Cell}
 use Rattle.machine.specs.Counting.{occurs}
@@ -18,7 +18,7 @@ use Rattle.machine.specs.Sound.{sizes}
 use Rattle.machine.specs.Pieces.{joined}
 use Rattle.packet.specs.Frame.{largestPiece}
 use Rattle.links.specs.Links.{Links}
-use Rattle.cells.specs.Read.{cell-in, sizeOf, piece-bytes, piece-size, cellsFrom, cells-end, cells-out, cells-more}
+use Rattle.cells.specs.ReadLaws.{cell-in, sizeOf, piece-bytes, piece-size, cellsFrom, cells-end, cells-out, cells-more}
 use Rattle.cells.specs.InPlace.{pieceState, indexBehind, spotFrom}
 
 -- ---- a cell that is met

@@ -15,7 +15,7 @@ ghost use Rattle.machine.specs.Sound.{sound};
 ghost use Rattle.machine.specs.Pieces.{cutPieces};
 ghost use Rattle.links.specs.Cut.{cutBytes};
 ghost use Rattle.cells.specs.InPlace.{CellIn};
-ghost use Rattle.cells.specs.Cutting.{pieceLaid};
+ghost use Rattle.cells.specs.Laying.{pieceLaid};
 
 // Data is cut by so many bytes.
 const CUT_BY: usize = rows::message::CUT as usize;

@@ -18,7 +18,7 @@ ghost use Rattle.machine.specs.Limits.{recCount, recBytes, topOf};
 ghost use Rattle.machine.specs.Codes.{roleReceive};
 ghost use Rattle.machine.specs.Layout.{freeCellsAt, recOff, encode, decode};
 ghost use Rattle.machine.specs.Receive.{chunkStep};
-ghost use Rattle.machine.specs.Calls.{cellsNeeded};
+ghost use Rattle.machine.specs.Packet.{cellsNeeded};
 ghost use Rattle.packet.specs.Frame.{largestPiece};
 ghost use Rattle.links.specs.Links.{Links};
 ghost use Rattle.store.specs.HeldAt.{recIn, keyIn, HeldAt};
@@ -90,7 +90,7 @@ fn put_in(store: &mut [u8], place: usize, index: u64, bytes: &[u8])
 
 // A piece of the held record whose link stands at byte `at`.
 pub fn put_piece(store: &mut [u8], at: usize, index: u64, bytes: &[u8])
-    requires { ⌜ HeldAt roleReceive (now store) at × (index ≤ topOf (recIn (now store) at .head .total)) × (cellsNeeded index (recIn (now store) at) ≤ length (decode (now store) .freeCells)) × (length (now bytes) ≤ largestPiece) ⌝ }
+    requires { ⌜ HeldAt roleReceive (now store) at × (index ≤ topOf (recIn (now store) at .label .total)) × (cellsNeeded index (recIn (now store) at) ≤ length (decode (now store) .freeCells)) × (length (now bytes) ≤ largestPiece) ⌝ }
     ensures { λ _. ⌜ now (store .exit) ≡ encode (chunkStep (keyIn (now (store .entry)) at) index (now (bytes .entry)) (decode (now (store .entry)))) ⌝ }
 {
     let place = small(store[at]);

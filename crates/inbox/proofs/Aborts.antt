@@ -12,12 +12,11 @@ use Rattle.machine.specs.Codes.{roleReceive}
 use Rattle.machine.specs.Values.{Rec, Key}
 use Rattle.machine.specs.Layout.{heldAt, encode, decode}
 use Rattle.machine.specs.Receive.{found, dropStep}
-use Rattle.machine.specs.Refusals.{refusal}
-use Rattle.machine.specs.Calls.{heldRow}
+use Rattle.machine.specs.Refusals.{refusal, heldRow}
 use Rattle.store.specs.HeldAt.{keyIn, HeldAt, Receives}
-use Rattle.store.specs.Met.{found-none, found-some, sought-key, sought-held}
+use Rattle.store.specs.MetLaws.{found-none, found-some, sought-key, sought-held}
 use Rattle.store.specs.Seek.{seek}
-use Rattle.store.specs.Refuse.{stop, clear}
+use Rattle.store.specs.RefuseLaws.{stop, clear}
 
 module _ (frame b : List ℕ) (y : Bytes b) (t : Receives b) (id : List ℕ) (k : id ≡ idOf frame) (at : ℕ) (is : at ≡ seek id b heldAt) where
   searched : at ≡ seek (idOf frame) b heldAt

@@ -9,23 +9,23 @@ use lib.ListN.{length, getD}
 use lib.Dec.{eqb, leb, ltb}
 use borrow.Author.Tests.{le-leb, lt-leb, leb-true, leb-false, ltb-true, ltb-false, eq-eqb, ne-eqb}
 use Rattle.octets.specs.Octets.{Bytes}
-use Rattle.octets.specs.Bools.{cases}
-use Rattle.octets.specs.Parts.{length-part-le}
+use Rattle.octets.specs.BoolsLaws.{cases}
+use Rattle.octets.specs.PartsLaws.{length-part-le}
 use Rattle.packet.specs.Frame.{idOf, chunkIndex, chunkOffset, chunkSize, piece, largestPiece}
 use Rattle.machine.specs.Limits.{leastPiece, topOf}
 use Rattle.machine.specs.Codes.{roleReceive}
 use Rattle.machine.specs.Values.{Rec, Key}
-use Rattle.machine.specs.Layout.{heldAt, headOf, recOf, encode, decode}
+use Rattle.machine.specs.Layout.{heldAt, labelOf, recOf, encode, decode}
 use Rattle.machine.specs.Find.{isSome}
 use Rattle.machine.specs.Pieces.{pieceAt}
 use Rattle.machine.specs.Receive.{found, chunkStep}
 use Rattle.machine.specs.Refusals.{refusal}
-use Rattle.machine.specs.Calls.{chunkRow, tooShort, cellsNeeded}
+use Rattle.machine.specs.Packet.{chunkRow, tooShort, cellsNeeded}
 use Rattle.steps.specs.Refusals.{refusal-clear}
 use Rattle.store.specs.HeldAt.{metAt, rowIn, recIn, keyIn, HeldAt, Receives}
-use Rattle.store.specs.Met.{held-met, sought-key, sought-held}
+use Rattle.store.specs.MetLaws.{held-met, sought-key, sought-held}
 use Rattle.store.specs.Seek.{seek}
-use Rattle.store.specs.Refuse.{next, stop, clear}
+use Rattle.store.specs.RefuseLaws.{next, stop, clear}
 
 -- ---- single rows
 
@@ -66,7 +66,7 @@ module _ (index offset size : ℕ) (b : List ℕ) (at : ℕ) where
 
   module _ (some : getD b at 0 ≡ 0 → ⊥) where
     abbrev total : ℕ
-    total = recIn b at .head .total
+    total = recIn b at .label .total
 
     abbrev inside : Bool
     inside = leb (offset + size) total
@@ -81,7 +81,7 @@ module _ (index offset size : ℕ) (b : List ℕ) (at : ℕ) where
     room = leb (cellsNeeded index (recIn b at)) (length (decode b .freeCells))
 
     -- what is told of the length that the row has
-    module _ (x : ℕ) (e : x ≡ headOf (rowIn b at) .total) where
+    module _ (x : ℕ) (e : x ≡ labelOf (rowIn b at) .total) where
       pub total-is : x ≡ total
       unfolding recOf
       total-is = e
@@ -156,14 +156,14 @@ module _ (frame b : List ℕ) (y : Bytes b) (t : Receives b) (id : List ℕ) (k 
       pub here : HeldAt roleReceive b at
       here = sought-held roleReceive b y t (idOf frame) at searched (omega (arith, some-here))
 
-      cleared : (leb (offset + size) (recIn b at .head .total) ≡ true) × (leb index (topOf (recIn b at .head .total)) ≡ true) × (not (tooShort (recIn b at .head .total) index offset size) ≡ true) × (leb (cellsNeeded index (recIn b at)) (length (decode b .freeCells)) ≡ true)
+      cleared : (leb (offset + size) (recIn b at .label .total) ≡ true) × (leb index (topOf (recIn b at .label .total)) ≡ true) × (not (tooShort (recIn b at .label .total) index offset size) ≡ true) × (leb (cellsNeeded index (recIn b at)) (length (decode b .freeCells)) ≡ true)
       cleared =
-          let c = refusal-clear ((leb (offset + size) (recIn b at .head .total), 9) ∷ (leb index (topOf (recIn b at .head .total)), 10) ∷ (not (tooShort (recIn b at .head .total) index offset size), 11) ∷ (leb (cellsNeeded index (recIn b at)) (length (decode b .freeCells)), 12) ∷ []) refl
+          let c = refusal-clear ((leb (offset + size) (recIn b at .label .total), 9) ∷ (leb index (topOf (recIn b at .label .total)), 10) ∷ (not (tooShort (recIn b at .label .total) index offset size), 11) ∷ (leb (cellsNeeded index (recIn b at)) (length (decode b .freeCells)), 12) ∷ []) refl
           (sym (start index offset size b at some-here) ∙ sym e ∙ z) in
           (c .0, c .1 .0, c .1 .1 .0, c .1 .1 .1 .0)
 
-      pub low-index : index ≤ topOf (recIn b at .head .total)
-      low-index = leb-true index (topOf (recIn b at .head .total)) (cleared .1)
+      pub low-index : index ≤ topOf (recIn b at .label .total)
+      low-index = leb-true index (topOf (recIn b at .label .total)) (cleared .1)
 
       pub has-room : cellsNeeded index (recIn b at) ≤ length (decode b .freeCells)
       has-room = leb-true (cellsNeeded index (recIn b at)) (length (decode b .freeCells)) (cleared .3)

@@ -9,22 +9,22 @@ use lib.ListN.{length, getD}
 use lib.Dec.{eqb}
 use borrow.Author.Tests.{eq-eqb, ne-eqb}
 use Rattle.octets.specs.Octets.{same, Bytes}
-use Rattle.octets.specs.Bools.{both}
+use Rattle.octets.specs.BoolsLaws.{both}
 use Rattle.blake3.specs.Tree.{blake3}
 use Rattle.packet.specs.Frame.{idOf, doneCount, doneSum}
-use Rattle.machine.specs.Codes.{roleReceive}
+use Rattle.machine.specs.Codes.{roleReceive, yes}
 use Rattle.machine.specs.Values.{Rec, Key}
-use Rattle.machine.specs.Layout.{heldAt, slotsAt, headOf, recOf, encode, decode}
+use Rattle.machine.specs.Layout.{heldAt, slotsAt, labelOf, recOf, encode, decode}
 use Rattle.machine.specs.Pieces.{joined}
 use Rattle.machine.specs.Sound.{sizes, isComplete}
 use Rattle.machine.specs.Receive.{found, doneStep}
 use Rattle.machine.specs.Refusals.{refusal}
-use Rattle.machine.specs.Calls.{yes, doneRow}
+use Rattle.machine.specs.Packet.{doneRow}
 use Rattle.steps.specs.Refusals.{refusal-clear}
 use Rattle.store.specs.HeldAt.{metAt, rowIn, recIn, keyIn, HeldAt, Receives}
-use Rattle.store.specs.Met.{held-met, sought-key, sought-held}
+use Rattle.store.specs.MetLaws.{held-met, sought-key, sought-held}
 use Rattle.store.specs.Seek.{seek}
-use Rattle.store.specs.Refuse.{next, stop, clear}
+use Rattle.store.specs.RefuseLaws.{next, stop, clear}
 
 -- ---- the row
 
@@ -46,7 +46,7 @@ module _ (count : ℕ) (sum : List ℕ) (known : ℕ) (b : List ℕ) (at : ℕ) 
     filled = eqb (length (r .cells)) (r .slots)
 
     abbrev sized : Bool
-    sized = eqb (sizes (r .cells)) (r .head .total)
+    sized = eqb (sizes (r .cells)) (r .label .total)
 
     abbrev summed : Bool
     summed = same sum (blake3 (joined (r .cells)))
@@ -76,17 +76,17 @@ module _ (count : ℕ) (sum : List ℕ) (known : ℕ) (b : List ℕ) (at : ℕ) 
             at14 = at13 ∙ next filled 14 ((sized, 15) ∷ (summed, 16) ∷ (yes known, 17) ∷ []) (eq-eqb (length (r .cells)) (r .slots) (sym c ∙ e14 ∙ slots-are))
 
             -- the length that the row has
-            module _ (x t : ℕ) (z : x ≡ sizes (r .cells)) (l : t ≡ headOf (rowIn b at) .total) where
-              pub total-is : t ≡ r .head .total
+            module _ (x t : ℕ) (z : x ≡ sizes (r .cells)) (l : t ≡ labelOf (rowIn b at) .total) where
+              pub total-is : t ≡ r .label .total
               unfolding recOf
               total-is = l
 
               pub total-stop : (x ≡ t → ⊥) → 15 ≡ number
-              total-stop e = sym (at14 ∙ stop sized 15 ((summed, 16) ∷ (yes known, 17) ∷ []) (ne-eqb (sizes (r .cells)) (r .head .total) (λ q. e (z ∙ q ∙ sym total-is))))
+              total-stop e = sym (at14 ∙ stop sized 15 ((summed, 16) ∷ (yes known, 17) ∷ []) (ne-eqb (sizes (r .cells)) (r .label .total) (λ q. e (z ∙ q ∙ sym total-is))))
 
               module _ (e15 : x ≡ t) where
                 at15 : number ≡ refusal ((summed, 16) ∷ (yes known, 17) ∷ [])
-                at15 = at14 ∙ next sized 15 ((summed, 16) ∷ (yes known, 17) ∷ []) (eq-eqb (sizes (r .cells)) (r .head .total) (sym z ∙ e15 ∙ total-is))
+                at15 = at14 ∙ next sized 15 ((summed, 16) ∷ (yes known, 17) ∷ []) (eq-eqb (sizes (r .cells)) (r .label .total) (sym z ∙ e15 ∙ total-is))
 
                 pub sum-stop : summed ≡ false → 16 ≡ number
                 sum-stop e = sym (at15 ∙ stop summed 16 ((yes known, 17) ∷ []) e)
@@ -124,9 +124,9 @@ module _ (frame b : List ℕ) (known : ℕ) (y : Bytes b) (t : Receives b) (id :
       pub complete : isComplete (recIn b at) ≡ true
       complete =
           let r : Rec = recIn b at in
-          let q = refusal-clear ((eqb count (r .slots), 13) ∷ (eqb (length (r .cells)) (r .slots), 14) ∷ (eqb (sizes (r .cells)) (r .head .total), 15) ∷ (same sum (blake3 (joined (r .cells))), 16) ∷ (yes known, 17) ∷ []) refl
+          let q = refusal-clear ((eqb count (r .slots), 13) ∷ (eqb (length (r .cells)) (r .slots), 14) ∷ (eqb (sizes (r .cells)) (r .label .total), 15) ∷ (same sum (blake3 (joined (r .cells))), 16) ∷ (yes known, 17) ∷ []) refl
           (sym (start count sum known b at some-here) ∙ sym e ∙ z) in
-          both (eqb (length (r .cells)) (r .slots)) (eqb (sizes (r .cells)) (r .head .total)) (q .1 .0) (q .1 .1 .0)
+          both (eqb (length (r .cells)) (r .slots)) (eqb (sizes (r .cells)) (r .label .total)) (q .1 .0) (q .1 .1 .0)
 
       pub finished : (l : List ℕ) → l ≡ encode (doneStep (keyIn b at) (decode b)) → l ≡ encode (doneStep (idOf frame) (decode b))
       finished l w = w ∙ ap (λ (x : Key). encode (doneStep x (decode b))) (sought-key roleReceive b y t (idOf frame) at searched (omega (arith, some-here)))

@@ -8,16 +8,17 @@ use lib.ListN.{length}
 use lib.Dec.{leb, ltb}
 use borrow.Author.Tests.{le-leb, lt-leb}
 use Rattle.topic.specs.Book.{wellFormed, admits}
-use Rattle.topic.specs.Admission.{admissionOf, numberOf}
-use Rattle.octets.specs.Bools.{cases}
+use Rattle.topic.specs.Admission.{admissionOf}
+use Rattle.machine.specs.Packet.{Packet, asked, isReply, initRow, rulesRow}
+use Rattle.machine.specs.Rules.{numberOf}
+use Rattle.octets.specs.BoolsLaws.{cases}
 use Rattle.packet.specs.Frame.{initLength, initTopic}
 use Rattle.machine.specs.Limits.{longest}
 use Rattle.machine.specs.Values.{Rec, Store, Key}
 use Rattle.machine.specs.Find.{isSome}
 use Rattle.machine.specs.Receive.{found}
 use Rattle.machine.specs.Refusals.{refusal}
-use Rattle.machine.specs.Calls.{Packet, asked, isReply, initRow, rulesRow}
-use Rattle.store.specs.Refuse.{next, stop, clear}
+use Rattle.store.specs.RefuseLaws.{next, stop, clear}
 
 -- rows 3 and 4, of a book that is read
 pub book-is : (b topic source : List ℕ) → numberOf (admissionOf b topic source) ≡ refusal ((wellFormed b, 3) ∷ (admits b topic source, 4) ∷ [])

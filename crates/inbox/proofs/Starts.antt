@@ -10,7 +10,7 @@ use lib.Dec.{ltb}
 use borrow.Author.Tests.{leb-true, ltb-true, not-true}
 use Rattle.octets.specs.Octets.{Bytes}
 use Rattle.octets.specs.Bools.{one}
-use Rattle.octets.specs.Parts.{length-part, length-part-le}
+use Rattle.octets.specs.PartsLaws.{length-part, length-part-le}
 use Rattle.packet.specs.Frame.{idOf, initLength, initTopic}
 use Rattle.machine.specs.Limits.{longest}
 use Rattle.machine.specs.Codes.{roleReceive}
@@ -19,15 +19,15 @@ use Rattle.machine.specs.Layout.{heldAt, freeAt, addressWidth, encode, decode}
 use Rattle.machine.specs.Find.{isSome}
 use Rattle.machine.specs.Receive.{found, initAt, initStep}
 use Rattle.machine.specs.Refusals.{refusal}
-use Rattle.machine.specs.Calls.{Packet, asked, initHead, frameBytes, isReply, initRow, arrival}
+use Rattle.machine.specs.Packet.{Packet, asked, initLabel, frameBytes, isReply, initRow, arrival}
 use Rattle.steps.specs.Find.{is-none}
 use Rattle.steps.specs.Refusals.{refusal-clear}
 use Rattle.links.specs.InRange.{links}
 use Rattle.store.specs.HeldAt.{recIn, keyIn, HeldAt, Receives}
 use Rattle.store.specs.Seek.{seek}
-use Rattle.store.specs.Met.{found-none, found-some, sought-key, sought-held}
-use Rattle.store.specs.Opening.{newHead, FieldsFit, Ready}
-use Rattle.store.specs.Established.{openable, free-is}
+use Rattle.store.specs.MetLaws.{found-none, found-some, sought-key, sought-held}
+use Rattle.store.specs.Opening.{newLabel, FieldsFit, Ready}
+use Rattle.store.specs.EstablishedLaws.{openable, free-is}
 use Rattle.inbox.specs.Arrives.{Startable}
 
 -- the refusals leave what is asked
@@ -43,11 +43,11 @@ startable p b z =
 -- the head as its fields are read
 module _ (frame from to id topic : List ℕ) (reply : Bool) (total : ℕ) (long : length frame ≡ frameBytes) (f : length from ≡ addressWidth) (t : length to ≡ addressWidth)
     (i : id ≡ idOf frame) (r : reply ≡ isReply (arrival frame from to [] 0)) (n : total ≡ initLength frame) (o : topic ≡ initTopic frame) where
-  pub head-is : newHead id from to reply total topic ≡ initHead (arrival frame from to [] 0)
+  pub head-is : newLabel id from to reply total topic ≡ initLabel (arrival frame from to [] 0)
   head-is = λ j. record { id = i j; source = from; destination = to; reply = one (r j); total = n j; topic = o j }
 
   module _ (y : Bytes frame) (h : initLength frame ≤ longest) where
-    pub fields-fit : FieldsFit (newHead id from to reply total topic)
+    pub fields-fit : FieldsFit (newLabel id from to reply total topic)
     fields-fit = record {
       id = ap length i ∙ length-part frame 0 8 (omega arith);
       source = f;
@@ -69,7 +69,7 @@ module _ (frame from to id topic : List ℕ) (reply : Bool) (total : ℕ) (long 
             let q : ltb 0 (length (decode b .free)) ≡ true = rw (ap (λ (x : Option Rec). isSome x) none-held) at (g .room) in
             ltb-true 0 (getD b freeAt 0) (free-is roleReceive b z s ∙ q)
 
-        pub opens : Ready b (newHead id from to reply total topic)
+        pub opens : Ready b (newLabel id from to reply total topic)
         opens = record {
           sound = s;
           free = openable b (links roleReceive b z s) free;
@@ -78,16 +78,16 @@ module _ (frame from to id topic : List ℕ) (reply : Bool) (total : ℕ) (long 
           fits = fields-fit;
         }
 
-        pub opened-is : (e : List ℕ) → e ≡ encode (initAt none (newHead id from to reply total topic) (decode b)) → e ≡ encode (initStep (initHead (arrival frame from to [] 0)) (decode b))
+        pub opened-is : (e : List ℕ) → e ≡ encode (initAt none (newLabel id from to reply total topic) (decode b)) → e ≡ encode (initStep (initLabel (arrival frame from to [] 0)) (decode b))
         opened-is e w = w ∙ (λ j. encode (initAt (sym none-held j) (head-is j) (decode b)))
 
       module _ (e : getD b at 0 ≡ 0 → ⊥) where
-        pub restarts : HeldAt roleReceive b at × (id ≡ keyIn b at) × FieldsFit (newHead id from to reply total topic)
+        pub restarts : HeldAt roleReceive b at × (id ≡ keyIn b at) × FieldsFit (newLabel id from to reply total topic)
         restarts = (
           sought-held roleReceive b z s (idOf frame) at sought (omega (arith, e)),
           i ∙ sym (sought-key roleReceive b z s (idOf frame) at sought (omega (arith, e))),
           fields-fit,
         )
 
-        pub restarted-is : (e : List ℕ) → e ≡ encode (initAt (some (recIn b at)) (newHead id from to reply total topic) (decode b)) → e ≡ encode (initStep (initHead (arrival frame from to [] 0)) (decode b))
+        pub restarted-is : (e : List ℕ) → e ≡ encode (initAt (some (recIn b at)) (newLabel id from to reply total topic) (decode b)) → e ≡ encode (initStep (initLabel (arrival frame from to [] 0)) (decode b))
         restarted-is l w = w ∙ (λ j. encode (initAt (sym (found-some roleReceive b z s (idOf frame) at sought e) j) (head-is j) (decode b)))

@@ -8,9 +8,9 @@ use lib.ListN.{length, getD}
 use lib.Dec.{leb}
 use borrow.Author.Tests.{le-leb, lt-leb, ne-eqb}
 use Rattle.octets.specs.Octets.{put, Bytes}
-use Rattle.octets.specs.Bools.{both}
+use Rattle.octets.specs.BoolsLaws.{both}
 use Rattle.packet.specs.Outgoing.{entry, readPacket}
-use Rattle.packet.specs.Lengths.{length-entry, length-header}
+use Rattle.packet.specs.LengthsLaws.{length-entry, length-header}
 use Rattle.machine.specs.Limits.{recBytes}
 use Rattle.machine.specs.Values.{Rec}
 use Rattle.machine.specs.Layout.{wholeAt, recOf, encode, decode}
@@ -18,10 +18,11 @@ use Rattle.machine.specs.Pieces.{joined}
 use Rattle.machine.specs.Receive.{takeStep}
 use Rattle.machine.specs.Refusals.{refusal}
 use Rattle.machine.specs.Outcomes.{TakeOutcome}
-use Rattle.machine.specs.Calls.{takeRoom, takenRoom, oldestRow, takeAt, takenBytes, takeOut}
-use Rattle.store.specs.Refuse.{next, stop, clear}
+use Rattle.machine.specs.Take.{takeRoom, takenRoom, oldestRow, takeAt, takenBytes, takeOut}
+use Rattle.store.specs.RefuseLaws.{next, stop, clear}
 use Rattle.store.specs.HeldAt.{rowIn, recIn}
-use Rattle.inbox.specs.Oldest.{Oldest, none-whole, some-whole, oldest-sized}
+use Rattle.inbox.specs.OldestLaws.{none-whole, some-whole, oldest-sized}
+use Rattle.inbox.specs.Arrives.{Oldest}
 
 module _ (b taken out : List ℕ) where
   abbrev row : ℕ
@@ -45,7 +46,7 @@ module _ (b taken out : List ℕ) where
     r = recIn b wholeAt
 
     abbrev room : Bool
-    room = leb takeRoom (length out) && leb (takenRoom (r .head .total)) (length taken)
+    room = leb takeRoom (length out) && leb (takenRoom (r .label .total)) (length taken)
 
     at : row ≡ refusal ((room, 2) ∷ [])
     at = ap (λ (l : List Rec). refusal (oldestRow l taken out)) (some-whole b some)
@@ -57,24 +58,24 @@ module _ (b taken out : List ℕ) where
     run-out m k w h p q s = short-out m k w (rw (lt-leb takeRoom (length out) h)) p q s
 
     module _ (fits : takeRoom ≤ length out) where
-      pub data-out : (m k w : ℕ) → length taken < recBytes + r .head .total → m ≡ 2 → k ≡ 0 → w ≡ 0 → record { number = m; run = k; wake = w; recv = b; taken = taken; out = out } ≡ outcome
-      data-out m k w h p q s = short-out m k w (rw (le-leb takeRoom (length out) fits, lt-leb (takenRoom (r .head .total)) (length taken) h)) p q s
+      pub data-out : (m k w : ℕ) → length taken < recBytes + r .label .total → m ≡ 2 → k ≡ 0 → w ≡ 0 → record { number = m; run = k; wake = w; recv = b; taken = taken; out = out } ≡ outcome
+      data-out m k w h p q s = short-out m k w (rw (le-leb takeRoom (length out) fits, lt-leb (takenRoom (r .label .total)) (length taken) h)) p q s
 
-      module _ (holds : recBytes + r .head .total ≤ length taken) (y : Bytes b) (o : Oldest b) where
+      module _ (holds : recBytes + r .label .total ≤ length taken) (y : Bytes b) (o : Oldest b) where
         clears : row ≡ 0
-        clears = at ∙ next room 2 [] (both _ _ (le-leb takeRoom (length out) fits) (le-leb (takenRoom (r .head .total)) (length taken) holds)) ∙ clear
+        clears = at ∙ next room 2 [] (both _ _ (le-leb takeRoom (length out) fits) (le-leb (takenRoom (r .label .total)) (length taken) holds)) ∙ clear
 
         abbrev sent : List ℕ
-        sent = entry (r .head .destination) (r .head .source) (readPacket (r .head .id))
+        sent = entry (r .label .destination) (r .label .source) (readPacket (r .label .id))
 
         long : length sent ≡ takeRoom
         long =
-            let z = oldest-sized b y o .head in
-            length-entry (r .head .destination) (r .head .source) (readPacket (r .head .id)) (z .destination .0) (z .source .0)
-            ∙ ap (λ (n : ℕ). 34 + n) (length-header (r .head .id) 8 (z .id .0))
+            let z = oldest-sized b y o .label in
+            length-entry (r .label .destination) (r .label .source) (readPacket (r .label .id)) (z .destination .0) (z .source .0)
+            ∙ ap (λ (n : ℕ). 34 + n) (length-header (r .label .id) 8 (z .id .0))
 
         pub taken-out : (m k w : ℕ) (b′ taken′ out′ : List ℕ) → b′ ≡ encode (takeStep (decode b)) → taken′ ≡ put taken 0 (rowIn b wholeAt ++ joined (r .cells))
-            → out′ ≡ put out 0 (entry (r .head .destination) (r .head .source) (readPacket (r .head .id))) → m ≡ 0 → k ≡ 46 → w ≡ 0
+            → out′ ≡ put out 0 (entry (r .label .destination) (r .label .source) (readPacket (r .label .id))) → m ≡ 0 → k ≡ 46 → w ≡ 0
             → record { number = m; run = k; wake = w; recv = b′; taken = taken′; out = out′ } ≡ outcome
         unfolding takenBytes takeOut recOf
         taken-out m k w b′ taken′ out′ e f g p q s =

@@ -7,19 +7,19 @@ use native.Mathlib.Nat.{zero-add}
 use lib.ListN.{length, getD, take, drop, length-drop, drop-of-length-le}
 use lib.Seq.{take-all, drop-drop}
 use Rattle.octets.specs.Octets.{put}
-use Rattle.octets.specs.Parts.{length-part, length-part-le, length-put, more}
+use Rattle.octets.specs.PartsLaws.{length-part, length-part-le, length-put, more}
 use Rattle.machine.specs.Limits.{recBytes}
 use Rattle.packet.specs.Outgoing.{entry, header, readPacket}
-use Rattle.machine.specs.Layout.{wholeAt, firstCellAt, recOff, headOf, recOf, readCells}
+use Rattle.machine.specs.Layout.{wholeAt, firstCellAt, recOff, labelOf, recOf, readCells}
 use Rattle.machine.specs.Pieces.{joined}
 use Rattle.machine.specs.Sound.{sizes}
 use Rattle.steps.specs.ByIndex.{length-joined}
-use Rattle.store.specs.Met.{rec-cells}
+use Rattle.store.specs.MetLaws.{rec-cells}
 use Rattle.store.specs.HeldAt.{placeAt, rowIn, recIn, Reached}
 
-pub read-is : (b out l f t i : List ℕ) → l ≡ put out 0 (entry f t (header i 8)) → f ≡ headOf (rowIn b wholeAt) .destination → t ≡ headOf (rowIn b wholeAt) .source
-    → i ≡ headOf (rowIn b wholeAt) .id
-    → l ≡ put out 0 (entry (recIn b wholeAt .head .destination) (recIn b wholeAt .head .source) (readPacket (recIn b wholeAt .head .id)))
+pub read-is : (b out l f t i : List ℕ) → l ≡ put out 0 (entry f t (header i 8)) → f ≡ labelOf (rowIn b wholeAt) .destination → t ≡ labelOf (rowIn b wholeAt) .source
+    → i ≡ labelOf (rowIn b wholeAt) .id
+    → l ≡ put out 0 (entry (recIn b wholeAt .label .destination) (recIn b wholeAt .label .source) (readPacket (recIn b wholeAt .label .id)))
 unfolding recOf
 read-is b out l f t i w p q r = w ∙ (λ j. put out 0 (entry (p j) (q j) (header (r j) 8)))
 

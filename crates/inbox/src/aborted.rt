@@ -7,10 +7,10 @@ ghost use lib.ListN.{length};
 ghost use Rattle.packet.specs.Frame.{idOf};
 ghost use Rattle.machine.specs.Layout.{decode};
 ghost use Rattle.machine.specs.Receive.{found, dropStep};
-ghost use Rattle.machine.specs.Refusals.{refusal};
-ghost use Rattle.machine.specs.Calls.{frameBytes, heldRow};
+ghost use Rattle.machine.specs.Refusals.{refusal, heldRow};
+ghost use Rattle.machine.specs.Packet.{frameBytes};
 ghost use Rattle.store.specs.HeldAt.{Receives};
-ghost use Rattle.store.specs.Refuse.{stepped};
+ghost use Rattle.store.specs.Step.{stepped};
 
 // Aborted: the number, and the store without the arriving record.
 pub fn abort(recv: &mut [u8], frame: &[u8]) -> u64

@@ -14,9 +14,9 @@ ghost use Rattle.machine.specs.Codes.{roleReceive};
 ghost use Rattle.machine.specs.Layout.{decode};
 ghost use Rattle.machine.specs.Receive.{found, chunkStep};
 ghost use Rattle.machine.specs.Refusals.{refusal};
-ghost use Rattle.machine.specs.Calls.{frameBytes, chunkRow, tooShort, cellsNeeded};
+ghost use Rattle.machine.specs.Packet.{frameBytes, chunkRow, tooShort, cellsNeeded};
 ghost use Rattle.store.specs.HeldAt.{metAt, recIn, HeldAt, Searched, Receives};
-ghost use Rattle.store.specs.Refuse.{stepped};
+ghost use Rattle.store.specs.Step.{stepped};
 
 // Row 9: whether the piece ends inside the message.
 fn fits(offset: u64, size: u64, total: u64) -> bool

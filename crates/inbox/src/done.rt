@@ -10,15 +10,15 @@ ghost use Rattle.octets.specs.Octets.{same};
 ghost use Rattle.blake3.specs.Tree.{blake3};
 ghost use Rattle.packet.specs.Frame.{idOf, doneCount, doneSum};
 ghost use Rattle.machine.specs.Limits.{longest};
-ghost use Rattle.machine.specs.Codes.{roleReceive};
+ghost use Rattle.machine.specs.Codes.{roleReceive, yes};
 ghost use Rattle.machine.specs.Layout.{decode};
 ghost use Rattle.machine.specs.Pieces.{joined};
 ghost use Rattle.machine.specs.Sound.{sizes};
 ghost use Rattle.machine.specs.Receive.{found, doneStep};
 ghost use Rattle.machine.specs.Refusals.{refusal};
-ghost use Rattle.machine.specs.Calls.{frameBytes, yes, doneRow};
+ghost use Rattle.machine.specs.Packet.{frameBytes, doneRow};
 ghost use Rattle.store.specs.HeldAt.{metAt, recIn, HeldAt, Searched, Receives};
-ghost use Rattle.store.specs.Refuse.{stepped};
+ghost use Rattle.store.specs.Step.{stepped};
 
 // Row 16: whether the sum is that of the pieces joined by index.
 fn has_sum(recv: &[u8], at: usize, sum: &[u8]) -> bool

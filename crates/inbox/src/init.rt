@@ -5,14 +5,15 @@ use packet::reader;
 use topic::Admission;
 ghost use mathlib.Core.Path.{_≡_};
 ghost use lib.ListN.{length};
-ghost use Rattle.topic.specs.Admission.{admissionOf, numberOf};
+ghost use Rattle.topic.specs.Admission.{admissionOf};
+ghost use Rattle.machine.specs.Packet.{frameBytes, initRow, initLabel, arrival, rulesRow};
+ghost use Rattle.machine.specs.Rules.{numberOf};
 ghost use mathlib.Core.List.{[]};
 ghost use Rattle.machine.specs.Layout.{encode, decode};
 ghost use Rattle.machine.specs.Receive.{initStep};
 ghost use Rattle.machine.specs.Refusals.{refusal};
-ghost use Rattle.machine.specs.Calls.{frameBytes, initRow, initHead, arrival, rulesRow};
 ghost use Rattle.inbox.specs.Arrives.{Startable};
-ghost use Rattle.store.specs.Refuse.{stepped};
+ghost use Rattle.store.specs.Step.{stepped};
 ghost use Rattle.store.specs.HeldAt.{Receives};
 
 // What a rule book says of a topic and a source.
@@ -65,7 +66,7 @@ fn refusal(recv: &[u8], frame: &[u8], from: &[u8; 16], rules: &[u8]) -> u64
 // An init that is not refused opens a record, or starts a held one again.
 fn start(recv: &mut [u8], frame: &[u8], from: &[u8; 16], to: &[u8; 16])
     requires { ⌜ Receives (now recv) × (length (now frame) ≡ frameBytes) × Startable (decode (now recv)) (now frame) ⌝ }
-    ensures { λ _. ⌜ now (recv .exit) ≡ encode (initStep (initHead (arrival (now (frame .entry)) (now (from .entry)) (now (to .entry)) [] 0)) (decode (now (recv .entry)))) ⌝ }
+    ensures { λ _. ⌜ now (recv .exit) ≡ encode (initStep (initLabel (arrival (now (frame .entry)) (now (from .entry)) (now (to .entry)) [] 0)) (decode (now (recv .entry)))) ⌝ }
 {
     let id = reader::id(frame);
     let reply = header::is_reply(reader::flags(frame));
@@ -82,7 +83,7 @@ fn start(recv: &mut [u8], frame: &[u8], from: &[u8; 16], to: &[u8; 16])
 // Init: the number, and the store with the message announced.
 pub fn init(recv: &mut [u8], frame: &[u8], from: &[u8; 16], to: &[u8; 16], rules: &[u8]) -> u64
     requires { ⌜ Receives (now recv) × (length (now frame) ≡ frameBytes) ⌝ }
-    ensures { λ r. ⌜ record { number = r; store = now (recv .exit) } ≡ stepped (refusal (initRow (arrival (now (frame .entry)) (now (from .entry)) (now (to .entry)) (now (rules .entry)) 0) (decode (now (recv .entry))))) (initStep (initHead (arrival (now (frame .entry)) (now (from .entry)) (now (to .entry)) (now (rules .entry)) 0)) (decode (now (recv .entry)))) (now (recv .entry)) ⌝ }
+    ensures { λ r. ⌜ record { number = r; store = now (recv .exit) } ≡ stepped (refusal (initRow (arrival (now (frame .entry)) (now (from .entry)) (now (to .entry)) (now (rules .entry)) 0) (decode (now (recv .entry))))) (initStep (initLabel (arrival (now (frame .entry)) (now (from .entry)) (now (to .entry)) (now (rules .entry)) 0)) (decode (now (recv .entry)))) (now (recv .entry)) ⌝ }
 {
     let number = refusal(recv, frame, from, rules);
     if number != answer::DONE {

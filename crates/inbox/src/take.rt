@@ -16,9 +16,9 @@ ghost use Rattle.machine.specs.Limits.{recBytes};
 ghost use Rattle.machine.specs.Layout.{wholeAt, decode};
 ghost use Rattle.machine.specs.Pieces.{joined};
 ghost use Rattle.machine.specs.Refusals.{refusal};
-ghost use Rattle.machine.specs.Calls.{oldestRow, takeRoom, takeAt};
+ghost use Rattle.machine.specs.Take.{oldestRow, takeRoom, takeAt};
 ghost use Rattle.store.specs.HeldAt.{rowIn, recIn, Receives};
-ghost use Rattle.inbox.specs.Oldest.{Oldest};
+ghost use Rattle.inbox.specs.Arrives.{Oldest};
 
 // What a read packet takes in a run.
 const READ_ROOM: usize = run::PACKET + header::SIZE;
@@ -26,7 +26,7 @@ const READ_ROOM: usize = run::PACKET + header::SIZE;
 // The read packet of the oldest whole message, from its destination to its source.
 fn put_read(recv: &[u8], run: &mut [u8])
     requires { ⌜ Oldest (now recv) × (takeRoom ≤ length (now run)) ⌝ }
-    ensures { λ _. ⌜ now (run .exit) ≡ put (now (run .entry)) 0 (entry (recIn (now (recv .entry)) wholeAt .head .destination) (recIn (now (recv .entry)) wholeAt .head .source) (readPacket (recIn (now (recv .entry)) wholeAt .head .id))) ⌝ }
+    ensures { λ _. ⌜ now (run .exit) ≡ put (now (run .entry)) 0 (entry (recIn (now (recv .entry)) wholeAt .label .destination) (recIn (now (recv .entry)) wholeAt .label .source) (readPacket (recIn (now (recv .entry)) wholeAt .label .id))) ⌝ }
 {
     run::put_header(
         run,
@@ -40,7 +40,7 @@ fn put_read(recv: &[u8], run: &mut [u8])
 
 // The oldest whole record as it stands, then its data.
 fn put_message(recv: &[u8], taken: &mut [u8])
-    requires { ⌜ Oldest (now recv) × (recBytes + recIn (now recv) wholeAt .head .total ≤ length (now taken)) ⌝ }
+    requires { ⌜ Oldest (now recv) × (recBytes + recIn (now recv) wholeAt .label .total ≤ length (now taken)) ⌝ }
     ensures { λ _. ⌜ now (taken .exit) ≡ put (now (taken .entry)) 0 (rowIn (now (recv .entry)) wholeAt ++ joined (recIn (now (recv .entry)) wholeAt .cells)) ⌝ }
 {
     octets::copy_in(taken, 0, field::whole_row(recv, Head::WHOLE));

@@ -6,16 +6,19 @@ use mathlib.Core.Bool.{true}
 use mathlib.Core.List.{List, [], _∷_, _++_}
 use lib.ListN.{length, getD, replicate}
 use borrow.Author.Tests.{leb-true, le-leb}
-use Rattle.octets.specs.Octets.{part, be, num, pow, Bytes, zeros}
-use Rattle.octets.specs.Parts.{length-part, getD-part, part-add, part-part, bytes-part}
-use Rattle.octets.specs.Numbers.{length-be, bytes-be, num-be, be-part, num-lt}
+use Rattle.octets.specs.Octets.{part, be, num, capacity, Bytes, zeros}
+use Rattle.octets.specs.PartsLaws.{length-part, getD-part, part-add, part-part, bytes-part}
+use Rattle.octets.specs.NumbersLaws.{length-be, bytes-be, num-be, be-part, num-lt}
 use Rattle.machine.specs.Limits.{cellBytes}
 use Rattle.machine.specs.Values.{Cell}
 use Rattle.machine.specs.Rows.{join, pad, zeroFrom}
-use Rattle.machine.specs.Layout.{nextAt, indexAt, sizeAt, stampAt, pieceStateAt, gapAt, bytesAt, numberWidth, sizeWidth, gapWidth, cellFields, cellRow, numAt, cellOf}
-use Rattle.machine.specs.Sound.{cellTests, cellShape, CellSized}
+use Rattle.machine.specs.Layout.{indexAt, sizeAt, stampAt, pieceStateAt, gapAt, bytesAt, numberWidth, sizeWidth, gapWidth, cellFields, cellRow, numAt, cellOf}
+use Rattle.machine.specs.Chains.{nextAt}
+use Rattle.machine.specs.Sound.{cellTests, cellShape}
+use Rattle.machine.specs.Valid.{CellSized}
 use Rattle.packet.specs.Frame.{largestPiece}
-use Rattle.laws.specs.Tests.{_&_, every-true, true-every}
+use Rattle.octets.specs.ListsLaws.{_&_}
+use Rattle.laws.specs.Tests.{every-true, true-every}
 use Rattle.laws.specs.Fields.{Fit, width, start, length-join, field-at, join-cuts, gets-is, zeros-part, pad-row, pad-zero, length-pad, bytes-pad, bytes-join, bytes-of, bytes-cons, bytes-zeros}
 
 -- the widths of a cell's fields, with a piece of n bytes
@@ -81,7 +84,7 @@ module _ (next : ℕ) (c : Cell) (z : CellSized c) where
   field i = field-at (cellFields next c) (cellWidths count) (replicate (cellBytes - length (join (cellFields next c))) 0) i fields
 
   size-is : numAt sizeWidth (cellRow next c) sizeAt ≡ count
-  unfolding pow
+  unfolding capacity
   size-is = ap (num sizeWidth) (field 1) ∙ num-be sizeWidth count (omega (arith, z .bytes .0))
 
   stamp-is : numAt numberWidth (cellRow next c) stampAt ≡ c .stamp

@@ -8,12 +8,12 @@ use mathlib.Core.List.{List, [], _∷_, _++_, map}
 use lib.ListN.{length, getD}
 use lib.Dec.{eqb}
 use borrow.Author.Tests.{eqb-true, ne-eqb}
-use Rattle.octets.specs.Bools.{cases}
+use Rattle.octets.specs.BoolsLaws.{cases}
 use Rattle.octets.specs.Lists.{All}
-use Rattle.machine.specs.Rows.{Row, places}
+use Rattle.machine.specs.Rows.{Row}
+use Rattle.laws.specs.Rows.{places, Held}
 use Rattle.machine.specs.Chains.{first, link, walk, chainRows}
 use Rattle.laws.specs.Counting.{Few, few-inside, few-short}
-use Rattle.laws.specs.Rows.{Held}
 
 -- each place's link leads to the next
 abbrev pub Linked : (ℕ → ℕ) → List ℕ → Type 0

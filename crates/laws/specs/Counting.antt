@@ -8,9 +8,11 @@ use mathlib.Core.List.{List, [], _∷_, _++_}
 use lib.ListN.{length}
 use lib.Dec.{eqb, leb, ltb}
 use borrow.Author.Tests.{eqb-true, eq-eqb, ne-eqb, ltb-true, leb-true, lt-ltb, le-leb}
-use Rattle.octets.specs.Bools.{cases, clash, split, both, one, one-le}
+use Rattle.octets.specs.Bools.{one}
+use Rattle.octets.specs.BoolsLaws.{cases, clash, split, both, one-le}
 use Rattle.octets.specs.Lists.{all, All}
-use Rattle.machine.specs.Counting.{occurs, inside, each, once, Once, rise}
+use Rattle.machine.specs.Counting.{occurs, inside, each, once, rise}
+use Rattle.machine.specs.Valid.{Once}
 
 -- ---- occurs
 

@@ -10,8 +10,8 @@ use lib.ListN.{length, getD, take, replicate, length-append, length-replicate}
 use lib.Seq.{drop-cons}
 use Rattle.octets.specs.Octets.{part, Bytes, zeros}
 use Rattle.octets.specs.Lists.{All}
-use Rattle.octets.specs.Parts.{length-part, part-add, part-all, part-none, part-skip, part-here}
-use Rattle.octets.specs.Compare.{zeros-is, is-zeros}
+use Rattle.octets.specs.PartsLaws.{length-part, part-add, part-all, part-none, part-skip, part-here}
+use Rattle.octets.specs.CompareLaws.{zeros-is, is-zeros}
 use Rattle.machine.specs.Rows.{join, pad, zeroFrom}
 
 -- ---- fields and their widths

@@ -7,24 +7,25 @@ use mathlib.Core.List.{List, [], _∷_}
 use lib.ListN.{length}
 use lib.Dec.{eqb, leb, ltb}
 use borrow.Author.Tests.{eqb-true, leb-true, le-leb, ltb-true}
-use Rattle.octets.specs.Bools.{cases, split}
-use Rattle.octets.specs.Lists.{All, all-true, true-all}
+use Rattle.octets.specs.BoolsLaws.{cases, split}
+use Rattle.octets.specs.Lists.{All}
+use Rattle.octets.specs.ListsLaws.{all-true, true-all, _&_}
 use Rattle.machine.specs.Limits.{longest, cutBy, slotsOf, mostSlots}
 use Rattle.machine.specs.Codes.{roleReceive, kindArriving, kindLeaving, stateAborted, pieceSent, pieceAcked}
 use Rattle.machine.specs.Values.{Cell, Sending, Rec}
 use Rattle.machine.specs.Sound.{idleTests, sendingFits, cellFits, rising, sizes, isComplete, isCut, recTests, recFits}
-use Rattle.laws.specs.Tests.{_&_, every-true, true-every}
+use Rattle.laws.specs.Tests.{every-true, true-every}
 
 pub record Fine (role kind : ℕ) (r : Rec) : Type 0 where
-  pub reply : r .head .reply ≤ 1
-  pub total : r .head .total ≤ longest
+  pub reply : r .label .reply ≤ 1
+  pub total : r .label .total ≤ longest
   pub sending : sendingFits role (r .sending) ≡ true
   pub cells : All (λ (c : Cell). cellFits role c ≡ true) (r .cells)
   pub rises : rising 0 (r .slots) (r .cells) ≡ true
-  pub low : slotsOf (r .head .total) ≤ r .slots
-  pub high : r .slots ≤ mostSlots (r .head .total)
+  pub low : slotsOf (r .label .total) ≤ r .slots
+  pub high : r .slots ≤ mostSlots (r .label .total)
   pub done : (eqb kind kindArriving || isComplete r) ≡ true
-  pub cut : (not (eqb kind kindLeaving) || isCut (r .head .total) (r .cells)) ≡ true
+  pub cut : (not (eqb kind kindLeaving) || isCut (r .label .total) (r .cells)) ≡ true
 
 module _ (role kind : ℕ) (r : Rec) where
   pub fits-fine : recFits role kind r ≡ true → Fine role kind r
@@ -32,13 +33,13 @@ module _ (role kind : ℕ) (r : Rec) where
   fits-fine h =
       let t = every-true (recTests role kind r) h in
       record {
-        reply = leb-true (r .head .reply) 1 (t .0);
-        total = leb-true (r .head .total) longest (t .1 .0);
+        reply = leb-true (r .label .reply) 1 (t .0);
+        total = leb-true (r .label .total) longest (t .1 .0);
         sending = t .1 .1 .0;
         cells = all-true (cellFits role) (r .cells) (t .1 .1 .1 .0);
         rises = t .1 .1 .1 .1 .0;
-        low = leb-true (slotsOf (r .head .total)) (r .slots) (t .1 .1 .1 .1 .1 .0);
-        high = leb-true (r .slots) (mostSlots (r .head .total)) (t .1 .1 .1 .1 .1 .1 .0);
+        low = leb-true (slotsOf (r .label .total)) (r .slots) (t .1 .1 .1 .1 .1 .0);
+        high = leb-true (r .slots) (mostSlots (r .label .total)) (t .1 .1 .1 .1 .1 .1 .0);
         done = t .1 .1 .1 .1 .1 .1 .1 .0;
         cut = t .1 .1 .1 .1 .1 .1 .1 .1 .0;
       }
@@ -47,8 +48,8 @@ module _ (role kind : ℕ) (r : Rec) where
   unfolding recFits
   fine-fits f =
       true-every (recTests role kind r)
-      (le-leb (r .head .reply) 1 (f .reply) & le-leb (r .head .total) longest (f .total) & f .sending & true-all (cellFits role) (r .cells) (f .cells) & f .rises
-      & le-leb (slotsOf (r .head .total)) (r .slots) (f .low) & le-leb (r .slots) (mostSlots (r .head .total)) (f .high) & f .done & f .cut & tt)
+      (le-leb (r .label .reply) 1 (f .reply) & le-leb (r .label .total) longest (f .total) & f .sending & true-all (cellFits role) (r .cells) (f .cells) & f .rises
+      & le-leb (slotsOf (r .label .total)) (r .slots) (f .low) & le-leb (r .slots) (mostSlots (r .label .total)) (f .high) & f .done & f .cut & tt)
 
 -- ---- slots and indices
 
@@ -84,13 +85,13 @@ cell-small role c h =
 -- ---- complete records
 
 -- a record that is whole or leaves has a piece for every slot, and their sizes are its length
-pub fine-complete : (role kind : ℕ) (r : Rec) → (kind ≡ kindArriving → ⊥) → Fine role kind r → (length (r .cells) ≡ r .slots) × (sizes (r .cells) ≡ r .head .total)
+pub fine-complete : (role kind : ℕ) (r : Rec) → (kind ≡ kindArriving → ⊥) → Fine role kind r → (length (r .cells) ≡ r .slots) × (sizes (r .cells) ≡ r .label .total)
 fine-complete role kind r n f =
     cases (eqb kind kindArriving)
     (λ e. absurd (n (eqb-true kind kindArriving e)))
     (λ e. let d : isComplete r ≡ true = rw e at (f .done) in
-    let t = split (eqb (length (r .cells)) (r .slots)) (eqb (sizes (r .cells)) (r .head .total)) d in
-    (eqb-true (length (r .cells)) (r .slots) (t .0), eqb-true (sizes (r .cells)) (r .head .total) (t .1)))
+    let t = split (eqb (length (r .cells)) (r .slots)) (eqb (sizes (r .cells)) (r .label .total)) d in
+    (eqb-true (length (r .cells)) (r .slots) (t .0), eqb-true (sizes (r .cells)) (r .label .total) (t .1)))
 
 -- what is cut by 1,300 has ceil(length/1,300) pieces
 pub cut-count : (n : ℕ) (l : List Cell) → isCut n l ≡ true → length l ≡ slotsOf n

@@ -7,12 +7,13 @@ use mathlib.Core.List.{append-nil}
 use lib.ListN.{length}
 use lib.Dec.{eqb, ltb}
 use borrow.Author.Tests.{eqb-true, ltb-true}
-use Rattle.octets.specs.Bools.{cases, split}
+use Rattle.octets.specs.BoolsLaws.{cases, split}
 use Rattle.machine.specs.Limits.{recCount, mostCells, storeBytes}
 use Rattle.machine.specs.Codes.{roleReceive, isRole}
 use Rattle.machine.specs.Counting.{occurs, inside, rise}
 use Rattle.machine.specs.Layout.{encode}
-use Rattle.machine.specs.Sound.{distinct, Valid, fresh, room, setupCells, allowed}
+use Rattle.machine.specs.Sound.{distinct, fresh, room, setupCells, allowed}
+use Rattle.machine.specs.Valid.{Valid}
 use Rattle.laws.specs.Counting.{inside-is, rise-once}
 use Rattle.laws.specs.Rep.{length-encode}
 

@@ -1,7 +1,7 @@
 -- The two laws of keys: keys that test the same are equal, and a key tests the same as itself. Assumes nothing.
 use mathlib.Core.Path.{_≡_}
 use mathlib.Core.Bool.{true}
-use Rattle.octets.specs.Compare.{same-eq, same-refl}
+use Rattle.octets.specs.CompareLaws.{same-eq, same-refl}
 use Rattle.machine.specs.Values.{Key, sameKey}
 
 pub key-eq : (j k : Key) → sameKey j k ≡ true → j ≡ k

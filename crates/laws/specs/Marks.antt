@@ -11,7 +11,8 @@ use lib.ListN.{length, getD, set, length-set}
 use lib.Seq.{getD-set-same, getD-set-other}
 use lib.Dec.{eqb}
 use borrow.Author.Tests.{eq-eqb, ne-eqb, eqb-true}
-use Rattle.octets.specs.Bools.{cases, clash, split, both, iff, one, one-le}
+use Rattle.octets.specs.Bools.{one}
+use Rattle.octets.specs.BoolsLaws.{cases, clash, split, both, iff, one-le}
 use Rattle.octets.specs.Lists.{all}
 use Rattle.machine.specs.Chains.{walk}
 use Rattle.machine.specs.Counting.{occurs, inside, each, once}

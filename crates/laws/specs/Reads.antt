@@ -7,14 +7,16 @@ use mathlib.Core.Bool.{true}
 use mathlib.Core.List.{List, [], _∷_, map}
 use lib.ListN.{length, getD}
 use Rattle.octets.specs.Octets.{Bytes}
-use Rattle.octets.specs.Lists.{all, All, all-true, all-to, all-zip, all-map}
-use Rattle.octets.specs.Parts.{length-part, bytes-part}
+use Rattle.octets.specs.Lists.{all, All}
+use Rattle.octets.specs.ListsLaws.{all-true, all-to, all-zip, all-map}
+use Rattle.octets.specs.PartsLaws.{length-part, bytes-part}
 use Rattle.machine.specs.Limits.{recCount, recBytes, cellBytes, mostCells, storeBytes}
 use Rattle.machine.specs.Codes.{kindWhole}
 use Rattle.machine.specs.Chains.{first, link, walk, chainRows}
 use Rattle.machine.specs.Counting.{occurs}
 use Rattle.machine.specs.Layout.{firstCellAt, recOff, cellOff, cellPlace, recPlace, freePlace, freeRow, recRow, cellRow, piecesRows, recAt, cellAt, cellOf, recOf, recChain, cellChain, readCell, readCells, readRec}
-use Rattle.machine.specs.Sound.{piecePlaces, recShape, cellShape, freeShape, CellSized, RecSized}
+use Rattle.machine.specs.Sound.{piecePlaces, recShape, cellShape, freeShape}
+use Rattle.machine.specs.Valid.{CellSized, RecSized}
 use Rattle.laws.specs.Tests.{all-parts}
 use Rattle.laws.specs.Counting.{Few, occurs-append}
 use Rattle.laws.specs.Rows.{Held, held-join}

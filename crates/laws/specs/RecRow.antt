@@ -8,17 +8,18 @@ use lib.ListN.{length, getD, replicate}
 use lib.Dec.{eqb}
 use borrow.Author.Tests.{eqb-true, eq-eqb}
 use Rattle.octets.specs.Octets.{part, be, num, Bytes}
-use Rattle.octets.specs.Bools.{split, both}
+use Rattle.octets.specs.BoolsLaws.{split, both}
 use Rattle.octets.specs.Lists.{All}
-use Rattle.octets.specs.Parts.{length-part, bytes-part}
-use Rattle.octets.specs.Numbers.{length-be, bytes-be, num-be, be-part, num-lt}
+use Rattle.octets.specs.PartsLaws.{length-part, bytes-part}
+use Rattle.octets.specs.NumbersLaws.{length-be, bytes-be, num-be, be-part, num-lt}
 use Rattle.machine.specs.Limits.{recBytes}
 use Rattle.machine.specs.Values.{Cell, Rec}
 use Rattle.machine.specs.Rows.{join, pad, zeroFrom}
-use Rattle.machine.specs.Chains.{first}
-use Rattle.machine.specs.Layout.{nextAt, kindAt, replyAt, stateAt, timedOutAt, firstCellAt, topicSizeAt, slotsAt, idAt, sourceAt, destinationAt, totalAt, createdAt, endAt, topicAt, idWidth, addressWidth, numberWidth, cellPlace, recFront, recFields, recRow, recOf, headOf}
-use Rattle.machine.specs.Sound.{recShape, HeadSized, CellSized, RecSized}
-use Rattle.laws.specs.Tests.{_&_}
+use Rattle.machine.specs.Chains.{first, nextAt}
+use Rattle.machine.specs.Layout.{kindAt, replyAt, stateAt, timedOutAt, firstCellAt, topicSizeAt, slotsAt, idAt, sourceAt, destinationAt, totalAt, createdAt, endAt, topicAt, idWidth, addressWidth, numberWidth, cellPlace, recFront, recFields, recRow, recOf, labelOf}
+use Rattle.machine.specs.Sound.{recShape}
+use Rattle.machine.specs.Valid.{LabelSized, CellSized, RecSized}
+use Rattle.octets.specs.ListsLaws.{_&_}
 use Rattle.laws.specs.Fields.{Fit, width, start, length-join, field-at, join-cuts, gets-is, pad-row, pad-zero, length-pad, bytes-pad, bytes-join}
 
 -- the widths of a record's fields, with a topic of t bytes
@@ -51,7 +52,7 @@ module _ (kind p : ℕ) (cells : List Cell) (row : List ℕ) (e : length row ≡
       ∙ (λ i. pad recBytes (join (front i ∷ part row idAt idWidth ∷ part row sourceAt addressWidth ∷ part row destinationAt addressWidth
       ∷ number totalAt (omega arith) i ∷ number createdAt (omega arith) i ∷ number endAt (omega arith) i ∷ part row topicAt t ∷ [])))
 
-  pub head-sized : HeadSized (headOf row)
+  pub head-sized : LabelSized (labelOf row)
   head-sized = record {
     id = (length-part row idAt idWidth (omega arith), bytes-part row idAt idWidth y);
     source = (length-part row sourceAt addressWidth (omega arith), bytes-part row sourceAt addressWidth y);
@@ -68,7 +69,7 @@ module _ (kind p : ℕ) (cells : List Cell) (row : List ℕ) (e : length row ≡
   pub rec-sized : All CellSized cells → RecSized (recOf p cells row)
   unfolding recOf
   rec-sized c = record {
-    head = head-sized;
+    label = head-sized;
     created = num-lt numberWidth (part row createdAt numberWidth) (bytes-part row createdAt numberWidth y);
     end = num-lt numberWidth (part row endAt numberWidth) (bytes-part row endAt numberWidth y);
     cells = c;
@@ -78,11 +79,11 @@ module _ (kind p : ℕ) (cells : List Cell) (row : List ℕ) (e : length row ≡
 
 module _ (kind next : ℕ) (r : Rec) (z : RecSized r) where
   abbrev topicSize : ℕ
-  topicSize = length (r .head .topic)
+  topicSize = length (r .label .topic)
 
   fields : Fit (recFields kind next r) (recWidths topicSize)
   fields =
-      refl & z .head .id .0 & z .head .source .0 & z .head .destination .0 & length-be numberWidth (r .head .total)
+      refl & z .label .id .0 & z .label .source .0 & z .label .destination .0 & length-be numberWidth (r .label .total)
       & length-be numberWidth (r .sending .created) & length-be numberWidth (r .sending .end) & refl & tt
 
   long : length (join (recFields kind next r)) ≡ topicAt + topicSize
@@ -95,12 +96,12 @@ module _ (kind next : ℕ) (r : Rec) (z : RecSized r) where
   pub rec-back : recOf (r .place) (r .cells) (recRow kind next r) ≡ r
   unfolding recOf recRow
   rec-back =
-      let total : num numberWidth (part (recRow kind next r) totalAt numberWidth) ≡ r .head .total = ap (num numberWidth) (field 4) ∙ num-be numberWidth (r .head .total) (z .head .total) in
+      let total : num numberWidth (part (recRow kind next r) totalAt numberWidth) ≡ r .label .total = ap (num numberWidth) (field 4) ∙ num-be numberWidth (r .label .total) (z .label .total) in
       let created : num numberWidth (part (recRow kind next r) createdAt numberWidth) ≡ r .sending .created = ap (num numberWidth) (field 5) ∙ num-be numberWidth (r .sending .created) (z .created) in
       let end : num numberWidth (part (recRow kind next r) endAt numberWidth) ≡ r .sending .end = ap (num numberWidth) (field 6) ∙ num-be numberWidth (r .sending .end) (z .end) in
       λ i. record {
         place = r .place;
-        head = record { id = field 1 i; source = field 2 i; destination = field 3 i; reply = r .head .reply; total = total i; topic = field 7 i };
+        label = record { id = field 1 i; source = field 2 i; destination = field 3 i; reply = r .label .reply; total = total i; topic = field 7 i };
         slots = r .slots;
         sending = record { state = r .sending .state; timedOut = r .sending .timedOut; created = created i; end = end i };
         cells = r .cells;
@@ -114,7 +115,7 @@ module _ (kind next : ℕ) (r : Rec) (z : RecSized r) where
 
   pub rec-length : length (recRow kind next r) ≡ recBytes
   unfolding recRow
-  rec-length = length-pad recBytes (join (recFields kind next r)) (omega (arith, long, z .head .topic .0))
+  rec-length = length-pad recBytes (join (recFields kind next r)) (omega (arith, long, z .label .topic .0))
 
   pub rec-link : getD (recRow kind next r) nextAt 0 ≡ next
   unfolding recRow
@@ -130,5 +131,5 @@ module _ (kind next : ℕ) (r : Rec) (z : RecSized r) where
   rec-bytes h =
       bytes-pad recBytes (join (recFields kind next r))
       (bytes-join (recFields kind next r)
-      (h & z .head .id .1 & z .head .source .1 & z .head .destination .1 & bytes-be numberWidth (r .head .total)
-      & bytes-be numberWidth (r .sending .created) & bytes-be numberWidth (r .sending .end) & z .head .topic .1 & tt))
+      (h & z .label .id .1 & z .label .source .1 & z .label .destination .1 & bytes-be numberWidth (r .label .total)
+      & bytes-be numberWidth (r .sending .created) & bytes-be numberWidth (r .sending .end) & z .label .topic .1 & tt))

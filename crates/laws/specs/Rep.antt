@@ -6,18 +6,21 @@ use mathlib.Core.Path.{_≡_, refl, sym, ap, _∙_}
 use mathlib.Core.List.{List, [], _++_, append-assoc, append-nil}
 use lib.ListN.{length, drop, length-append, take-append-drop, drop-of-length-le}
 use Rattle.octets.specs.Octets.{part}
-use Rattle.octets.specs.Bools.{one, one-le}
-use Rattle.octets.specs.Lists.{All, all-to, all-of, all-left, all-right}
-use Rattle.octets.specs.Parts.{part-here}
+use Rattle.octets.specs.Bools.{one}
+use Rattle.octets.specs.BoolsLaws.{one-le}
+use Rattle.octets.specs.Lists.{All}
+use Rattle.octets.specs.ListsLaws.{all-to, all-of, all-left, all-right}
+use Rattle.octets.specs.PartsLaws.{part-here}
 use Rattle.machine.specs.Limits.{headBytes, recCount, recBytes, cellBytes, storeBytes}
 use Rattle.machine.specs.Codes.{heldKind, kindWhole}
 use Rattle.machine.specs.Values.{Cell, Rec, Store}
-use Rattle.machine.specs.Rows.{places, rowAt, table}
+use Rattle.machine.specs.Rows.{rowAt, table}
+use Rattle.laws.specs.Rows.{places, Held, held-at, held-same, at-held, row-has, table-same, table-of, table-length, table-at}
 use Rattle.machine.specs.Counting.{occurs, inside}
 use Rattle.machine.specs.Layout.{recOff, cellOff, headRow, recRow, cellRow, recRows, cellRows, encode, recAt, cellAt}
-use Rattle.machine.specs.Sound.{recPlaces, cellPlaces, CellSized, RecSized, Valid}
+use Rattle.machine.specs.Sound.{recPlaces, cellPlaces}
+use Rattle.machine.specs.Valid.{CellSized, RecSized, Valid}
 use Rattle.laws.specs.Counting.{one-inside, inside-one}
-use Rattle.laws.specs.Rows.{Held, held-at, held-same, at-held, row-has, table-same, table-of, table-length, table-at}
 use Rattle.laws.specs.FreeRow.{free-length}
 use Rattle.laws.specs.RecRow.{rec-length}
 use Rattle.laws.specs.CellRow.{cell-length}

@@ -5,7 +5,7 @@ use native.Mathlib.Omega.{arith}
 use native.Mathlib.Nat.{add-zero}
 use native.Mathlib.Decide.{ℕ-discrete}
 use mathlib.Core.Path.{_≡_, refl, sym, ap, _∙_}
-use mathlib.Core.List.{List, [], _∷_, _++_, append-assoc}
+use mathlib.Core.List.{List, [], _∷_, _++_, append-assoc, map}
 use lib.ListN.{length, take, drop, length-append, take-append-drop}
 use lib.Seq.{drop-drop}
 use lib.Dec.{eqb}
@@ -13,11 +13,15 @@ use borrow.Author.Tests.{eq-eqb, ne-eqb}
 use Rattle.octets.specs.Octets.{part, Bytes}
 use Rattle.octets.specs.Bools.{one}
 use Rattle.octets.specs.Lists.{All}
-use Rattle.octets.specs.Parts.{part-skip, part-here}
-use Rattle.machine.specs.Rows.{Row, places, rowAt, rowOff, table}
+use Rattle.octets.specs.PartsLaws.{part-skip, part-here}
+use Rattle.machine.specs.Rows.{Row, rowAt, rowOff, table}
 use Rattle.machine.specs.Counting.{occurs}
 use Rattle.laws.specs.Counting.{self, other}
 use Rattle.laws.specs.Fields.{bytes-nil, bytes-append}
+
+-- the places of rows
+abbrev pub places : List Row → List ℕ
+places rows = map (λ (r : Row). r .place) rows
 
 -- ---- rows held by a function of the place
 

@@ -9,16 +9,18 @@ use lib.Dec.{eqb}
 use borrow.Author.Tests.{eqb-true}
 use Rattle.octets.specs.Octets.{part, Bytes}
 use Rattle.octets.specs.Bools.{one}
-use Rattle.octets.specs.Lists.{all, all-true, all-join}
-use Rattle.octets.specs.Parts.{part-add}
+use Rattle.octets.specs.Lists.{all}
+use Rattle.octets.specs.ListsLaws.{all-true, all-join}
+use Rattle.octets.specs.PartsLaws.{part-add}
 use Rattle.machine.specs.Limits.{headBytes, recCount, recBytes, cellBytes, mostCells, storeBytes}
 use Rattle.machine.specs.Codes.{roleReceive, heldKind, kindWhole, isRole}
 use Rattle.machine.specs.Values.{Rec, Store}
 use Rattle.machine.specs.Rows.{Row, zeroFrom}
 use Rattle.machine.specs.Chains.{first, chainRows}
-use Rattle.machine.specs.Counting.{occurs, inside, Once}
+use Rattle.machine.specs.Counting.{occurs, inside}
+use Rattle.machine.specs.Valid.{Once, RecSized, Valid}
 use Rattle.machine.specs.Layout.{freeAt, heldAt, wholeAt, freeCellsAt, formAt, form, countAt, roleAt, restAt, recPlace, headRow, headFields, recRow, piecesRows, encode, recAt, cellAt, recChain, cellChain, readRec, decode}
-use Rattle.machine.specs.Sound.{recFits, noRec, distinct, recPlaces, piecePlaces, cellPlaces, recShape, cellShape, freeShape, headTests, shapeTests, soundTests, sound, RecSized, Valid}
+use Rattle.machine.specs.Sound.{recFits, noRec, distinct, recPlaces, piecePlaces, cellPlaces, recShape, cellShape, freeShape, headTests, shapeTests, soundTests, sound}
 use Rattle.laws.specs.Tests.{every-true, all-parts}
 use Rattle.laws.specs.Fields.{gets, gets-is, zeros-part}
 use Rattle.laws.specs.Counting.{inside-is, once-is, occurs-append}

@@ -3,15 +3,16 @@
 use Prim.Native.Nat.{ℕ}
 use mathlib.Core.Path.{_≡_, refl, sym, ap, _∙_, subst}
 use mathlib.Core.List.{List, [], _∷_, _++_, map, append-assoc}
-use Rattle.octets.specs.Lists.{All, all-left, all-right, all-join, all-of}
+use Rattle.octets.specs.Lists.{All}
+use Rattle.octets.specs.ListsLaws.{all-left, all-right, all-join, all-of}
 use Rattle.machine.specs.Limits.{recBytes, cellBytes}
 use Rattle.machine.specs.Codes.{heldKind, kindWhole}
 use Rattle.machine.specs.Values.{Cell, Rec, Store}
-use Rattle.machine.specs.Rows.{Row, places}
+use Rattle.machine.specs.Rows.{Row}
+use Rattle.laws.specs.Rows.{places, Held, held-left, held-right, held-join, places-append}
 use Rattle.machine.specs.Chains.{chainRows}
 use Rattle.machine.specs.Layout.{cellPlace, recPlace, freePlace, freeRow, recRow, cellRow, recRows, piecesRows, cellRows}
 use Rattle.machine.specs.Sound.{recPlaces, piecePlaces, cellPlaces}
-use Rattle.laws.specs.Rows.{Held, held-left, held-right, held-join, places-append}
 use Rattle.laws.specs.Chains.{chain-places, chain-has}
 use Rattle.laws.specs.FreeRow.{free-map}
 

@@ -2,14 +2,10 @@
 use mathlib.Core.Path.{_≡_, refl}
 use mathlib.Core.Bool.{Bool, true, _&&_}
 use mathlib.Core.List.{List, [], _∷_, _++_}
-use Rattle.octets.specs.Bools.{split, both}
-use Rattle.octets.specs.Lists.{all, All, all-true, true-all, all-left, all-right, all-join}
+use Rattle.octets.specs.BoolsLaws.{split, both}
+use Rattle.octets.specs.Lists.{all, All}
+use Rattle.octets.specs.ListsLaws.{all-true, true-all, all-left, all-right, all-join}
 use Rattle.machine.specs.Tests.{also, every}
-
--- facts one behind the other, as `All` of a list has them
-infixr 5 _&_
-abbrev pub _&_ : {A B : Type 0} → A → B → A × B
-a & b = (a, b)
 
 also-true : (p : Bool) (l : List Bool) → also p l ≡ true → (p ≡ true) × All (λ q. q ≡ true) l
 also-true p [] h = (h, tt)

@@ -8,15 +8,16 @@ use lib.ListN.{length}
 use lib.Dec.{eqb}
 use borrow.Author.Tests.{eqb-true}
 use Rattle.octets.specs.Octets.{Bytes}
-use Rattle.octets.specs.Bools.{cases}
-use Rattle.octets.specs.Lists.{All, all-to, all-zip, all-left, all-right, all-join}
+use Rattle.octets.specs.BoolsLaws.{cases}
+use Rattle.octets.specs.Lists.{All}
+use Rattle.octets.specs.ListsLaws.{all-to, all-zip, all-left, all-right, all-join, _&_}
 use Rattle.machine.specs.Limits.{headBytes, recCount, recBytes, cellBytes}
 use Rattle.machine.specs.Codes.{roleReceive, roleSend, heldKind, kindWhole, isRole}
 use Rattle.machine.specs.Values.{Cell, Rec, Store}
 use Rattle.machine.specs.Rows.{rowAt, table}
 use Rattle.machine.specs.Layout.{form, cellPlace, recPlace, headRow, headFields, recFront, recRow, cellRow, recRows, cellRows, encode}
-use Rattle.machine.specs.Sound.{cellFits, recFits, recPlaces, piecePlaces, cellPlaces, CellSized, RecSized, Valid}
-use Rattle.laws.specs.Tests.{_&_}
+use Rattle.machine.specs.Sound.{cellFits, recFits, recPlaces, piecePlaces, cellPlaces}
+use Rattle.machine.specs.Valid.{CellSized, RecSized, Valid}
 use Rattle.laws.specs.Fields.{bytes-of, bytes-append, bytes-pad}
 use Rattle.laws.specs.Counting.{few-inside}
 use Rattle.laws.specs.Rows.{row-has, table-bytes}
@@ -55,10 +56,10 @@ Good role kind r = Sized r × (recFits role kind r ≡ true)
 
 -- the single bytes of a record's fields
 record Small (r : Rec) : Type 0 where
-  reply : r .head .reply < 256
+  reply : r .label .reply < 256
   state : r .sending .state < 256
   timedOut : r .sending .timedOut < 256
-  topic : length (r .head .topic) < 256
+  topic : length (r .label .topic) < 256
   slots : r .slots < 256
 
 rec-small : (role kind : ℕ) (r : Rec) → Good role kind r → Small r
@@ -69,8 +70,8 @@ rec-small role kind r g =
       reply = omega (arith, f .reply);
       state = omega (arith, x .0);
       timedOut = omega (arith, x .1);
-      topic = omega (arith, g .0 .0 .head .topic .0);
-      slots = omega (arith, f .high, slots-few (r .head .total) (f .total));
+      topic = omega (arith, g .0 .0 .label .topic .0);
+      slots = omega (arith, f .high, slots-few (r .label .total) (f .total));
     }
 
 rec-good : (role kind : ℕ) → kind < 256 → (r : Rec) → Good role kind r → (next : ℕ) → next < 256 → Bytes (recRow kind next r)
@@ -85,7 +86,7 @@ cells-good role kind r g =
     let f = fits-fine role kind r (g .1) in
     all-to (λ c. (CellSized c × (cellFits role c ≡ true)) × (c .index < r .slots)) (λ c. (next : ℕ) → next < 256 → Bytes (cellRow next c)) (r .cells)
     (λ c z next h.
-    cell-bytes next c (z .0 .0) h (omega (arith, z .1, f .high, slots-few (r .head .total) (f .total))) (omega (arith, cell-small role c (z .0 .1))))
+    cell-bytes next c (z .0 .0) h (omega (arith, z .1, f .high, slots-few (r .label .total) (f .total))) (omega (arith, cell-small role c (z .0 .1))))
     (all-zip (λ c. CellSized c × (cellFits role c ≡ true)) (λ c. c .index < r .slots) (r .cells)
     (all-zip CellSized (λ c. cellFits role c ≡ true) (r .cells) (g .0 .0 .cells) (f .cells))
     (rising-below 0 (r .slots) (r .cells) (f .rises)))

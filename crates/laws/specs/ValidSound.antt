@@ -7,8 +7,9 @@ use mathlib.Core.List.{List, [], _∷_, _++_, map}
 use lib.ListN.{length, getD}
 use borrow.Author.Tests.{eq-eqb}
 use Rattle.octets.specs.Octets.{part, zeros}
-use Rattle.octets.specs.Lists.{all, All, true-all, all-to, all-of, all-left, all-right}
-use Rattle.octets.specs.Parts.{part-part}
+use Rattle.octets.specs.Lists.{all, All}
+use Rattle.octets.specs.ListsLaws.{true-all, all-to, all-of, all-left, all-right, _&_}
+use Rattle.octets.specs.PartsLaws.{part-part}
 use Rattle.machine.specs.Limits.{headBytes, recCount, recBytes, cellBytes, mostCells, storeBytes}
 use Rattle.machine.specs.Codes.{heldKind, kindWhole}
 use Rattle.machine.specs.Values.{Cell, Rec, Store}
@@ -16,8 +17,9 @@ use Rattle.machine.specs.Tests.{every}
 use Rattle.machine.specs.Rows.{zeroFrom}
 use Rattle.machine.specs.Chains.{first, chainRows}
 use Rattle.machine.specs.Layout.{heldAt, wholeAt, formAt, form, countAt, roleAt, restAt, firstCellAt, cellPlace, recPlace, freePlace, headFields, freeRow, recRow, cellRow, piecesRows, encode, recAt, cellAt, cellOf, recOf, recChain, readCell, readCells, readRec, decode}
-use Rattle.machine.specs.Sound.{headTests, shapeTests, recFits, recPlaces, piecePlaces, cellPlaces, recShape, cellShape, freeShape, soundTests, sound, CellSized, RecSized, Valid}
-use Rattle.laws.specs.Tests.{_&_, true-every, all-append}
+use Rattle.machine.specs.Sound.{headTests, shapeTests, recFits, recPlaces, piecePlaces, cellPlaces, recShape, cellShape, freeShape, soundTests, sound}
+use Rattle.machine.specs.Valid.{CellSized, RecSized, Valid}
+use Rattle.laws.specs.Tests.{true-every, all-append}
 use Rattle.laws.specs.Fields.{pad-zero}
 use Rattle.laws.specs.Counting.{is-inside, is-once}
 use Rattle.laws.specs.Rows.{Held, held-left, held-right}

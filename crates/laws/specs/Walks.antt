@@ -7,15 +7,17 @@ use mathlib.Core.Path.{_≡_, refl, sym, ap, _∙_, subst}
 use mathlib.Core.List.{List, [], _∷_, _++_, map}
 use lib.ListN.{getD}
 use Rattle.octets.specs.Bools.{one}
-use Rattle.octets.specs.Lists.{All, all-to, all-of, all-left, all-right}
-use Rattle.octets.specs.Parts.{getD-part}
+use Rattle.octets.specs.Lists.{All}
+use Rattle.octets.specs.ListsLaws.{all-to, all-of, all-left, all-right}
+use Rattle.octets.specs.PartsLaws.{getD-part}
 use Rattle.machine.specs.Limits.{headBytes, recCount, recBytes, cellBytes, mostCells}
 use Rattle.machine.specs.Codes.{heldKind, kindWhole}
 use Rattle.machine.specs.Values.{Rec, Store}
-use Rattle.machine.specs.Chains.{first, link, walk, chainRows}
+use Rattle.machine.specs.Chains.{first, link, walk, chainRows, nextAt}
 use Rattle.machine.specs.Counting.{occurs, inside}
-use Rattle.machine.specs.Layout.{freeAt, heldAt, wholeAt, freeCellsAt, nextAt, cellPlace, recPlace, freePlace, headRow, freeRow, recRow, cellRow, piecesRows, recAt, cellAt, recChain, cellChain}
-use Rattle.machine.specs.Sound.{piecePlaces, CellSized, RecSized, Valid}
+use Rattle.machine.specs.Layout.{freeAt, heldAt, wholeAt, freeCellsAt, cellPlace, recPlace, freePlace, headRow, freeRow, recRow, cellRow, piecesRows, recAt, cellAt, recChain, cellChain}
+use Rattle.machine.specs.Sound.{piecePlaces}
+use Rattle.machine.specs.Valid.{CellSized, RecSized, Valid}
 use Rattle.laws.specs.Counting.{Few, occurs-append}
 use Rattle.laws.specs.Rows.{Held, held-left, held-right}
 use Rattle.laws.specs.Chains.{Linked, chain-walk, held-linked}

@@ -10,14 +10,14 @@ use lib.ListN.{length}
 use lib.Dec.{eqb}
 use Rattle.octets.specs.Octets.{part, put}
 use Rattle.octets.specs.Bools.{one}
-use Rattle.octets.specs.Parts.{length-put, part-put-same, part-put-before, part-put-after, part-put-in}
+use Rattle.octets.specs.PartsLaws.{length-put, part-put-same, part-put-before, part-put-after, part-put-in}
 use Rattle.machine.specs.Limits.{headBytes, recCount, recBytes, cellBytes, storeBytes}
-use Rattle.machine.specs.Rows.{Row, places, rowOff}
+use Rattle.machine.specs.Rows.{Row, rowOff}
+use Rattle.laws.specs.Rows.{places, off-step, Held, held-left, held-right, held-join, held-same, places-append}
 use Rattle.machine.specs.Chains.{first, chainRows}
 use Rattle.machine.specs.Counting.{occurs}
 use Rattle.machine.specs.Layout.{recOff, cellOff, recAt, cellAt}
 use Rattle.laws.specs.Counting.{self, occurs-append}
-use Rattle.laws.specs.Rows.{off-step, Held, held-left, held-right, held-join, held-same, places-append}
 use Rattle.laws.specs.Chains.{rowsTo, chain-append}
 
 module _ (start size : ℕ) where

@@ -1,4 +1,4 @@
--- The ledger of demand 3, as document 01 defines it: fed each call's arguments and answer number, nothing from a store.
+-- The ledger of demand 3 (PROTOCOL, "The ledger"): it is fed each call's arguments and answer number, nothing from a store.
 use Prim.Native.Nat.{ℕ, zero, suc, _+_, _<_, max}
 use mathlib.Core.Path.{_≡_}
 use mathlib.Core.Bool.{Bool, true, cond}
@@ -12,9 +12,9 @@ use Rattle.packet.specs.declared.header.Kind.the-variants.{Init, Chunk, Done, R
 use Rattle.packet.specs.Frame.{chunkIndex, piece}
 use Rattle.machine.specs.Limits.{slotsOf}
 use Rattle.machine.specs.Codes.{roleReceive, roleSend}
-use Rattle.machine.specs.Values.{Head, Key, sameKey}
-use Rattle.machine.specs.Calls.{Packet, kind, asked, initHead}
-use Rattle.ledger.specs.Run.{receive, send, Call, setup, packet, push, wake, report, take}
+use Rattle.machine.specs.Values.{Label, Key, sameKey}
+use Rattle.machine.specs.Packet.{Packet, kind, asked, initLabel}
+use Rattle.ledger.specs.Run.{receive, send, Call, setup, packet, push, wake, report, takeWhole}
 
 -- ---- pages
 
@@ -25,7 +25,7 @@ pub record Piece : Type 0 where
 
 -- a page: what the init that opened it said, and the pieces acknowledged since, the last first
 pub record Page : Type 0 where
-  pub head : Head
+  pub label : Label
   pub pieces : List Piece
 
 -- the piece last acknowledged for an index
@@ -54,7 +54,7 @@ sizesFrom i (suc n) l = length (bytesOr (look i l)) + sizesFrom (suc i) n l
 
 -- "the larger of that init's length / 1,300 rounded up and highest index + 1"
 abbrev pub countOf : Page → ℕ
-countOf g = max (slotsOf (g .head .total)) (reach (g .pieces))
+countOf g = max (slotsOf (g .label .total)) (reach (g .pieces))
 
 -- its pieces joined by index
 abbrev pub wholeOf : Page → List ℕ
@@ -64,7 +64,7 @@ wholeOf g = joinFrom 0 (countOf g) (g .pieces)
 pub record Due (g : Page) (count : ℕ) (sum : List ℕ) (known : Bool) : Type 0 where
   pub counted : count ≡ countOf g
   pub filled : (i : ℕ) → i < count → look i (g .pieces) ≡ none → ⊥
-  pub added : sizesFrom 0 count (g .pieces) ≡ g .head .total
+  pub added : sizesFrom 0 count (g .pieces) ≡ g .label .total
   pub summed : sum ≡ blake3 (wholeOf g)
   pub keyed : known ≡ true
 
@@ -96,13 +96,13 @@ abbrev pub withPage : Key → Option Page → Book → Book
 withPage k g b = record { pages = write k g (b .pages); row = b .row }
 
 -- "Init opens its id's page, replacing an open one: .. no pieces"
-abbrev pub initIn : Key → Head → Book → Book
-initIn k h b = withPage k (some (record { head = h; pieces = [] })) b
+abbrev pub initIn : Key → Label → Book → Book
+initIn k h b = withPage k (some (record { label = h; pieces = [] })) b
 
 -- "Chunk: its piece's bytes become those of its index on the open page"
 unfoldable pub chunkIn : Option Page → Key → Piece → Book → Book
 chunkIn none k q b = b
-chunkIn (some g) k q b = withPage k (some (record { head = g .head; pieces = q ∷ g .pieces })) b
+chunkIn (some g) k q b = withPage k (some (record { label = g .label; pieces = q ∷ g .pieces })) b
 
 -- "Done: the open page goes last in the row"
 unfoldable pub doneIn : Option Page → Key → Book → Book
@@ -111,7 +111,7 @@ doneIn (some g) k b = record { pages = write k none (b .pages); row = b .row ++ 
 
 -- "Packets here are those without ack, kind by Steps"; "Aborted: the open page goes"
 unfoldable pub packetIn : Kind → Packet → Book → Book
-packetIn Init p b = initIn (asked p) (initHead p) b
+packetIn Init p b = initIn (asked p) (initLabel p) b
 packetIn Chunk p b = chunkIn (b .pages (asked p)) (asked p) (record { index = chunkIndex (p .frame); bytes = piece (p .frame) }) b
 packetIn Done p b = doneIn (b .pages (asked p)) (asked p) b
 packetIn Read p b = b
@@ -136,7 +136,7 @@ enter (packet p out) l = withBook (packetIn (kind p) p (l .book)) l
 enter (push p out) l = l
 enter (wake kind id clock out) l = l
 enter (report id out) l = l
-enter (take taken out) l = withBook (record { pages = l .book .pages; row = later (l .book .row) }) l
+enter (takeWhole taken out) l = withBook (record { pages = l .book .pages; row = later (l .book .row) }) l
 
 -- "Only a call answered 0 changes it"
 unfoldable pub ledger : List (Call × ℕ) → Ledger → Ledger

@@ -2,22 +2,25 @@
 pub mod Run
 pub mod Ledger
 pub mod Statement
+pub mod Made
 pub mod Only
 -- refusals change nothing
-pub mod Refused
+pub mod RefusedLaws
 -- demand 3
-pub mod Fronts
-pub mod Stored
-pub mod Agree
-pub mod Holds
-pub mod Due
-pub mod Taken
-pub mod Demand
--- nothing earlier and no other id
-pub mod Deeds
-pub mod Own
+pub mod FrontsLaws
+pub mod StoredLaws
+pub mod AgreeLaws
+pub mod HoldsLaws
+pub mod DueLaws
+pub mod TakenLaws
+pub mod DemandLaws
 -- oldest first, each once
-pub mod InOrder
+pub mod InOrderLaws
+-- nothing earlier and no other id
+pub mod DeedsLaws
+pub mod OwnLaws
+-- a store that a packet does not concern
+pub mod UntouchedLaws
 -- worked runs
-pub mod Packets
-pub mod Example
+pub mod PacketsLaws
+pub mod ExampleLaws

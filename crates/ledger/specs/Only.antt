@@ -1,13 +1,15 @@
--- What is fed to the ledger, in parts: the acknowledged calls that a test picks, the pages made, and the pages that takes gave. The theorems of Own
--- speak of these.
+-- What concerns what: of the calls that are fed to the ledger those of a key, of pages those of a key, and of the two stores the one that a packet
+-- works on. The theorems of Own and Untouched speak of these.
 use Prim.Native.Nat.{ℕ}
 use mathlib.Core.Bool.{Bool, true, false, cond, _&&_}
-use mathlib.Core.List.{List, [], _∷_, _++_}
+use mathlib.Core.List.{List, [], _∷_}
 use lib.Dec.{eqb}
+use Rattle.packet.specs.declared.header.Kind.{Kind}
+use Rattle.packet.specs.declared.header.Kind.the-variants.{Init, Chunk, Done, Read, Aborted, AckInit, AckChunk, AckDone, Nothing}
 use Rattle.machine.specs.Values.{Key, keyOf, sameKey}
-use Rattle.machine.specs.Calls.{asked}
-use Rattle.ledger.specs.Run.{receive, send, Call, setup, packet, push, wake, report, take}
-use Rattle.ledger.specs.Ledger.{Page, Ledger, opening, enter, ledger}
+use Rattle.machine.specs.Packet.{asked}
+use Rattle.ledger.specs.Run.{receive, send, Call, setup, packet, push, wake, report, takeWhole}
+use Rattle.ledger.specs.Ledger.{Page}
 
 -- the elements of a list that a test picks, in their order
 unfoldable pub pick : {A : Type 0} → (A → Bool) → List A → List A
@@ -26,43 +28,23 @@ concerns k (packet p out) = sameKey k (asked p)
 concerns k (push p out) = false
 concerns k (wake kind id clock out) = false
 concerns k (report id out) = false
-concerns k (take taken out) = false
+concerns k (takeWhole taken out) = false
 
 abbrev pub only : Key → List (Call × ℕ) → List (Call × ℕ)
 only k t = among (concerns k) t
 
--- all but takes
-unfoldable pub notTake : Call → Bool
-notTake (setup which store role) = true
-notTake (packet p out) = true
-notTake (push p out) = true
-notTake (wake kind id clock out) = true
-notTake (report id out) = true
-notTake (take taken out) = false
-
--- the pages finished since the receive store was last set up, oldest first, taken or not: the row, had no take come
-abbrev pub made : List (Call × ℕ) → List Page
-made t = ledger (among notTake t) opening .book .row
-
-abbrev pub oldest : List Page → List Page
-oldest [] = []
-oldest (g ∷ row) = g ∷ []
-
--- what a call adds to the pages that takes gave since the receive store was last set up: a take gives the first page of the row
-unfoldable pub gaveBy : Call → List Page → List Page → List Page
-gaveBy (setup receive store role) row got = []
-gaveBy (setup send store role) row got = got
-gaveBy (packet p out) row got = got
-gaveBy (push p out) row got = got
-gaveBy (wake kind id clock out) row got = got
-gaveBy (report id out) row got = got
-gaveBy (take taken out) row got = got ++ oldest row
-
--- those pages, in the order in which they were given: what is fed to a ledger, after the pages `got`
-unfoldable pub gave : List (Call × ℕ) → Ledger → List Page → List Page
-gave [] l got = got
-gave (c ∷ t) l got = gave t (cond (eqb (c .1) 0) (enter (c .0) l) l) (cond (eqb (c .1) 0) (gaveBy (c .0) (l .book .row) got) got)
-
 -- the pages of a key
 abbrev pub ofKey : Key → List Page → List Page
-ofKey k row = pick (λ (g : Page). sameKey k (keyOf (g .head))) row
+ofKey k row = pick (λ (g : Page). sameKey k (keyOf (g .label))) row
+
+-- a packet to the office works on the receive store, any other on the send store
+abbrev pub toOffice : Kind → Bool
+toOffice Init = true
+toOffice Chunk = true
+toOffice Done = true
+toOffice Read = false
+toOffice Aborted = true
+toOffice AckInit = false
+toOffice AckChunk = false
+toOffice AckDone = false
+toOffice Nothing = false

@@ -8,7 +8,12 @@ use Rattle.machine.specs.Codes.{roleReceive, roleSend}
 use Rattle.machine.specs.Layout.{encode}
 use Rattle.machine.specs.Sound.{fresh}
 use Rattle.machine.specs.Typed.{TypedPacket, TypedPush, TypedClock}
-use Rattle.machine.specs.Calls.{Packet, packetDone, Push, pushDone, setupOf, wakeOf, reportOf, takeOf}
+use Rattle.machine.specs.Setup.{setupOf}
+use Rattle.machine.specs.Packet.{Packet, packetAnswer}
+use Rattle.machine.specs.Push.{Push, pushAnswer}
+use Rattle.machine.specs.Wake.{wakeOf}
+use Rattle.machine.specs.Report.{reportOf}
+use Rattle.machine.specs.Take.{takeOf}
 
 -- the store to receive and the store to send
 pub data Which : Type 0 where
@@ -25,26 +30,26 @@ pub data Call : Type 0 where
   push : (p : Push) (out : List ℕ) → Call
   wake : (kind : ℕ) (id : List ℕ) (clock : ℕ) (out : List ℕ) → Call
   report : (id out : List ℕ) → Call
-  take : (taken out : List ℕ) → Call
+  takeWhole : (taken out : List ℕ) → Call
 
 -- the number that a call answers
 unfoldable pub answer : Call → Stores → ℕ
 answer (setup which store role) s = setupOf store role .number
-answer (packet p out) s = packetDone p (s .recv) (s .send) out .number
-answer (push p out) s = pushDone p (s .send) out .number
+answer (packet p out) s = packetAnswer p (s .recv) (s .send) out .number
+answer (push p out) s = pushAnswer p (s .send) out .number
 answer (wake kind id clock out) s = wakeOf (s .send) kind id clock out .number
 answer (report id out) s = reportOf (s .send) id out .number
-answer (take taken out) s = takeOf (s .recv) taken out .number
+answer (takeWhole taken out) s = takeOf (s .recv) taken out .number
 
 -- the stores that it leaves; a buffer that setup refuses takes no store's place
 unfoldable pub after : Call → Stores → Stores
 after (setup receive store role) s = record { recv = cond (eqb (setupOf store role .number) 0) (setupOf store role .store) (s .recv); send = s .send }
 after (setup send store role) s = record { recv = s .recv; send = cond (eqb (setupOf store role .number) 0) (setupOf store role .store) (s .send) }
-after (packet p out) s = record { recv = packetDone p (s .recv) (s .send) out .recv; send = packetDone p (s .recv) (s .send) out .send }
-after (push p out) s = record { recv = s .recv; send = pushDone p (s .send) out .send }
+after (packet p out) s = record { recv = packetAnswer p (s .recv) (s .send) out .recv; send = packetAnswer p (s .recv) (s .send) out .send }
+after (push p out) s = record { recv = s .recv; send = pushAnswer p (s .send) out .send }
 after (wake kind id clock out) s = record { recv = s .recv; send = wakeOf (s .send) kind id clock out .send }
 after (report id out) s = s
-after (take taken out) s = record { recv = takeOf (s .recv) taken out .recv; send = s .send }
+after (takeWhole taken out) s = record { recv = takeOf (s .recv) taken out .recv; send = s .send }
 
 -- the stores that a list of calls leaves
 unfoldable pub left : List Call → Stores → Stores
@@ -68,4 +73,4 @@ Typed (packet p out) = TypedPacket p
 Typed (push p out) = TypedPush p
 Typed (wake kind id clock out) = TypedClock clock
 Typed (report id out) = Unit {0}
-Typed (take taken out) = Unit {0}
+Typed (takeWhole taken out) = Unit {0}

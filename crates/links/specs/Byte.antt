@@ -8,7 +8,7 @@ use mathlib.Core.List.{List, [], _∷_, _++_, append-assoc}
 use lib.ListN.{length, getD, take, drop}
 use lib.Seq.{append-snoc, take-append-le, drop-at, take-take, length-take-le}
 use Rattle.octets.specs.Octets.{part, put}
-use Rattle.octets.specs.Parts.{getD-part, getD-put-before, getD-put-after}
+use Rattle.octets.specs.PartsLaws.{getD-part, getD-put-before, getD-put-after}
 
 pub first-byte : (b : List ℕ) (o n : ℕ) → 0 < n → getD b o 0 ≡ getD (part b o n) 0 0
 first-byte b o n h = ap (λ (x : ℕ). getD b x 0) (sym (add-zero o)) ∙ sym (getD-part b o n 0 h)

@@ -5,18 +5,19 @@ use mathlib.Core.Path.{_≡_, refl, sym, ap, _∙_, subst}
 use mathlib.Core.List.{List, [], _∷_, _++_, map, append-assoc}
 use lib.ListN.{length}
 use Rattle.octets.specs.Octets.{be}
-use Rattle.octets.specs.Bools.{one, one-le}
+use Rattle.octets.specs.Bools.{one}
+use Rattle.octets.specs.BoolsLaws.{one-le}
 use Rattle.machine.specs.Limits.{headBytes, recCount, recBytes, cellBytes, storeBytes}
 use Rattle.machine.specs.Codes.{heldKind, kindWhole}
 use Rattle.machine.specs.Values.{Cell, Rec, Store}
-use Rattle.machine.specs.Rows.{Row, join, pad, places}
+use Rattle.machine.specs.Rows.{Row, join, pad}
+use Rattle.laws.specs.Rows.{places, Held, held-same}
 use Rattle.machine.specs.Chains.{first, chainRows}
 use Rattle.machine.specs.Counting.{occurs, inside}
 use Rattle.machine.specs.Layout.{form, numberWidth, recPlace, cellPlace, freePlace, freeRow, recRow, cellRow, recRows, cellRows, piecesRows, recAt, cellAt}
-use Rattle.machine.specs.Sound.{Valid}
+use Rattle.machine.specs.Valid.{Valid}
 use Rattle.machine.specs.Send.{withCells}
 use Rattle.laws.specs.Counting.{one-inside}
-use Rattle.laws.specs.Rows.{Held, held-same}
 use Rattle.laws.specs.StoreRows.{rows-append, freeCellRows}
 use Rattle.laws.specs.Rep.{Rep, rec-once, cell-once}
 use Rattle.laws.specs.Write.{Wrote, cell-leaves-head, cell-leaves-recs, chain-swap}
@@ -35,8 +36,8 @@ cells-around s l r m =
 pub row-alike : (kind next : ℕ) (r : Rec) (cells : List Cell) → first (map cellPlace cells) ≡ first (map cellPlace (r .cells)) → recRow kind next (withCells cells r) ≡ recRow kind next r
 unfolding recRow
 row-alike kind next r cells e =
-    ap (λ (x : ℕ). pad recBytes (join ((next ∷ kind ∷ r .head .reply ∷ r .sending .state ∷ r .sending .timedOut ∷ x ∷ length (r .head .topic) ∷ r .slots ∷ [])
-    ∷ r .head .id ∷ r .head .source ∷ r .head .destination ∷ be numberWidth (r .head .total) ∷ be numberWidth (r .sending .created) ∷ be numberWidth (r .sending .end) ∷ r .head .topic ∷ []))) e
+    ap (λ (x : ℕ). pad recBytes (join ((next ∷ kind ∷ r .label .reply ∷ r .sending .state ∷ r .sending .timedOut ∷ x ∷ length (r .label .topic) ∷ r .slots ∷ [])
+    ∷ r .label .id ∷ r .label .source ∷ r .label .destination ∷ be numberWidth (r .label .total) ∷ be numberWidth (r .sending .created) ∷ be numberWidth (r .sending .end) ∷ r .label .topic ∷ []))) e
 
 -- records keep their rows where their pieces keep their places
 pub recs-alike : (s : Store) (l : List Rec) (r : Rec) (cells : List Cell) (m : List Rec) → first (map cellPlace cells) ≡ first (map cellPlace (r .cells))

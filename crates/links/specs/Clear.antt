@@ -5,7 +5,8 @@ use mathlib.Core.Path.{_≡_, refl, sym, ap, _∙_, subst}
 use mathlib.Core.List.{List, [], _∷_}
 use lib.ListN.{length}
 use Rattle.octets.specs.Octets.{part, put}
-use Rattle.octets.specs.Lists.{All, all-to}
+use Rattle.octets.specs.Lists.{All}
+use Rattle.octets.specs.ListsLaws.{all-to}
 use Rattle.machine.specs.Rows.{rowOff}
 use Rattle.machine.specs.Counting.{occurs}
 use Rattle.machine.specs.Layout.{freePlace, freeRow}

@@ -6,18 +6,20 @@ use mathlib.Core.Path.{_≡_, refl, sym, ap, _∙_, subst}
 use mathlib.Core.List.{List, [], _∷_, _++_, map}
 use lib.ListN.{length}
 use Rattle.octets.specs.Octets.{put}
-use Rattle.octets.specs.Bools.{one, one-le}
+use Rattle.octets.specs.Bools.{one}
+use Rattle.octets.specs.BoolsLaws.{one-le}
 use Rattle.octets.specs.Lists.{All}
-use Rattle.octets.specs.Parts.{length-put, part-put-in, part-put-after}
+use Rattle.octets.specs.PartsLaws.{length-put, part-put-in, part-put-after}
 use Rattle.machine.specs.Limits.{headBytes, recCount, recBytes, cellBytes, storeBytes}
 use Rattle.machine.specs.Values.{Cell, Rec, Store}
-use Rattle.machine.specs.Rows.{Row, places}
+use Rattle.machine.specs.Rows.{Row}
+use Rattle.laws.specs.Rows.{places, Held, held-right, held-join, held-same}
 use Rattle.machine.specs.Chains.{first, chainRows}
 use Rattle.machine.specs.Counting.{occurs, inside}
 use Rattle.machine.specs.Layout.{freeCellsAt, cellPlace, freePlace, freeRow, cellRow, recRows, piecesRows, headRow, recAt, cellAt, recOff, cellOff}
-use Rattle.machine.specs.Sound.{Valid, CellSized, piecePlaces}
+use Rattle.machine.specs.Sound.{piecePlaces}
+use Rattle.machine.specs.Valid.{Valid, CellSized}
 use Rattle.laws.specs.Counting.{occurs-append, few-inside, one-inside}
-use Rattle.laws.specs.Rows.{Held, held-right, held-join, held-same}
 use Rattle.laws.specs.Chains.{rowsTo}
 use Rattle.laws.specs.CellRow.{cell-length}
 use Rattle.laws.specs.FreeRow.{free-map}

@@ -7,19 +7,20 @@ use mathlib.Core.List.{List, [], _∷_, _++_, map, append-assoc}
 use lib.ListN.{length, getD}
 use lib.Dec.{eqb}
 use Rattle.octets.specs.Octets.{part, put}
-use Rattle.octets.specs.Bools.{one, one-le}
+use Rattle.octets.specs.Bools.{one}
+use Rattle.octets.specs.BoolsLaws.{one-le}
 use Rattle.octets.specs.Lists.{All}
-use Rattle.octets.specs.Parts.{getD-part}
+use Rattle.octets.specs.PartsLaws.{getD-part}
 use Rattle.machine.specs.Limits.{headBytes, recCount, recBytes, cellBytes, storeBytes}
 use Rattle.machine.specs.Codes.{heldKind, kindWhole}
 use Rattle.machine.specs.Values.{Rec, Store}
-use Rattle.machine.specs.Rows.{Row, pad, places}
+use Rattle.machine.specs.Rows.{Row, pad}
+use Rattle.laws.specs.Rows.{places, Held, held-left, held-right, held-join, held-same}
 use Rattle.machine.specs.Chains.{first, chainRows}
 use Rattle.machine.specs.Counting.{occurs, inside}
 use Rattle.machine.specs.Layout.{form, heldAt, wholeAt, recPlace, cellPlace, freePlace, freeRow, recRow, cellRow, piecesRows, headRow, recAt, cellAt, recOff, cellOff}
-use Rattle.machine.specs.Sound.{Valid}
+use Rattle.machine.specs.Valid.{Valid}
 use Rattle.laws.specs.Counting.{self, occurs-append, few-inside, one-inside}
-use Rattle.laws.specs.Rows.{Held, held-left, held-right, held-join, held-same}
 use Rattle.laws.specs.Chains.{lead, rowsTo, chain-places}
 use Rattle.laws.specs.FreeRow.{free-map}
 use Rattle.laws.specs.StoreRows.{rows-append, held-recs, held-cells, held-freeCells, held-pieces}

@@ -9,7 +9,8 @@ use Rattle.machine.specs.Values.{Rec, Store}
 use Rattle.machine.specs.Chains.{first, chainRows}
 use Rattle.machine.specs.Counting.{occurs}
 use Rattle.machine.specs.Layout.{heldAt, recPlace, recRow, piecesRows, headRow, recAt, cellAt}
-use Rattle.machine.specs.Sound.{Valid, piecePlaces}
+use Rattle.machine.specs.Sound.{piecePlaces}
+use Rattle.machine.specs.Valid.{Valid}
 use Rattle.laws.specs.Counting.{occurs-append}
 use Rattle.laws.specs.Rows.{Held, held-join}
 use Rattle.laws.specs.StoreRows.{held-pieces}

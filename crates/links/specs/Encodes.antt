@@ -5,15 +5,16 @@ use mathlib.Core.Bool.{true}
 use mathlib.Core.List.{List, [], _∷_, _++_, map}
 use mathlib.Core.Option.{none, some}
 use borrow.Author.Tests.{ltb-true}
-use Rattle.octets.specs.Octets.{put, pow, Bytes}
+use Rattle.octets.specs.Octets.{put, capacity, Bytes}
 use Rattle.machine.specs.Limits.{headBytes, recBytes, cellBytes, storeBytes}
 use Rattle.machine.specs.Codes.{roleReceive, heldKind}
 use Rattle.machine.specs.Send.{withCells}
-use Rattle.machine.specs.Values.{Head, Cell, Rec, Store, Key, sameKey}
+use Rattle.machine.specs.Values.{Label, Cell, Rec, Store, Key, sameKey}
 use Rattle.machine.specs.Chains.{first}
 use Rattle.machine.specs.Pieces.{rest}
-use Rattle.machine.specs.Layout.{encode, decode, recOff, freeAt, numberWidth, wholeAt, recPlace, cellPlace, recRow, cellRow}
-use Rattle.machine.specs.Sound.{sound, isComplete, Valid, HeadSized, RecSized}
+use Rattle.machine.specs.Layout.{encode, decode, recOff, freeAt, numberLimit, wholeAt, recPlace, cellPlace, recRow, cellRow}
+use Rattle.machine.specs.Sound.{sound, isComplete}
+use Rattle.machine.specs.Valid.{Valid, LabelSized, RecSized}
 use Rattle.machine.specs.Receive.{recKey, started, initAt, found, replaced, freedCells, doneAt, dropAt, takeFrom}
 use Rattle.laws.specs.Rep.{Rep, rep-encode, encode-rep}
 use Rattle.laws.specs.Write.{Wrote}
@@ -120,13 +121,13 @@ module _ (role : ℕ) (b : List ℕ) (bytes : Bytes b) (ok : sound role b ≡ tr
       (open-rep role s valid c spare p ps e r ready at z)
 
   -- an arriving record has no pieces yet
-  pub init-encode : (p : ℕ) (ps : List ℕ) → s .free ≡ p ∷ ps → (h : Head) → HeadSized h → Valid role (initAt none h s)
+  pub init-encode : (p : ℕ) (ps : List ℕ) → s .free ≡ p ∷ ps → (h : Label) → LabelSized h → Valid role (initAt none h s)
       → put (put b (recOff p) (recRow (heldKind (s .setup .role)) (first (map recPlace (s .held))) (started p h))) freeAt (first ps ∷ p ∷ []) ≡ encode (initAt none h s)
-  unfolding initAt pow
+  unfolding initAt capacity
   init-encode p ps e h z v =
       let t : initAt none h s ≡ record { setup = s .setup; free = ps; held = started p h ∷ s .held; whole = s .whole; freeCells = s .freeCells } =
       ap (λ (f : List ℕ). record { setup = s .setup; free = rest f; held = started (first f) h ∷ s .held; whole = s .whole; freeCells = s .freeCells }) e in
-      open-encode p ps e (started p h) refl (record { head = z; created = ltb-true 0 (pow numberWidth) refl; end = ltb-true 0 (pow numberWidth) refl; cells = tt }) (s .freeCells) b
+      open-encode p ps e (started p h) refl (record { label = z; created = ltb-true 0 numberLimit refl; end = ltb-true 0 numberLimit refl; cells = tt }) (s .freeCells) b
       (rep-ready s (started p h) b refl rep) (subst (Valid role) t v) ∙ ap encode (sym t)
 
   -- a pushed record: its pieces are laid down in the first free cells, then it is opened

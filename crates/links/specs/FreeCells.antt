@@ -6,16 +6,17 @@ use mathlib.Core.Path.{_≡_, refl, sym, ap, _∙_, subst}
 use mathlib.Core.List.{List, [], _∷_, _++_, map}
 use lib.ListN.{length}
 use Rattle.octets.specs.Octets.{part, put}
-use Rattle.octets.specs.Bools.{one, one-le}
-use Rattle.octets.specs.Lists.{all-to}
-use Rattle.octets.specs.Parts.{length-put, part-put-in, part-put-after}
+use Rattle.octets.specs.Bools.{one}
+use Rattle.octets.specs.BoolsLaws.{one-le}
+use Rattle.octets.specs.ListsLaws.{all-to}
+use Rattle.octets.specs.PartsLaws.{length-put, part-put-in, part-put-after}
 use Rattle.machine.specs.Limits.{headBytes, recCount, recBytes, cellBytes, storeBytes}
-use Rattle.machine.specs.Rows.{Row, places}
+use Rattle.machine.specs.Rows.{Row}
+use Rattle.laws.specs.Rows.{places, Held, held-join, held-same}
 use Rattle.machine.specs.Chains.{first, chainRows}
 use Rattle.machine.specs.Counting.{occurs, inside}
 use Rattle.machine.specs.Layout.{freeCellsAt, freePlace, freeRow, recAt, cellAt, recOff, cellOff}
 use Rattle.laws.specs.Counting.{few-inside, one-inside}
-use Rattle.laws.specs.Rows.{Held, held-join, held-same}
 use Rattle.laws.specs.Chains.{lead, rowsTo}
 use Rattle.laws.specs.FreeRow.{free-map}
 use Rattle.links.specs.Link.{rows-append, chain-rows, rows-places}

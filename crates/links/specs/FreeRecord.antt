@@ -7,15 +7,16 @@ use mathlib.Core.List.{List, [], _∷_}
 use lib.ListN.{length}
 use lib.Dec.{eqb}
 use Rattle.octets.specs.Octets.{part, put}
-use Rattle.octets.specs.Bools.{one, one-le}
-use Rattle.octets.specs.Parts.{length-put}
+use Rattle.octets.specs.Bools.{one}
+use Rattle.octets.specs.BoolsLaws.{one-le}
+use Rattle.octets.specs.PartsLaws.{length-put}
 use Rattle.machine.specs.Limits.{headBytes, recCount, recBytes, storeBytes}
-use Rattle.machine.specs.Rows.{Row, places}
+use Rattle.machine.specs.Rows.{Row}
+use Rattle.laws.specs.Rows.{places, Held, held-same}
 use Rattle.machine.specs.Chains.{first, chainRows}
 use Rattle.machine.specs.Counting.{occurs, inside}
 use Rattle.machine.specs.Layout.{freeAt, freePlace, freeRow, recOff, recAt, cellAt}
 use Rattle.laws.specs.Counting.{self, one-inside}
-use Rattle.laws.specs.Rows.{Held, held-same}
 use Rattle.laws.specs.Chains.{chain-places}
 use Rattle.laws.specs.FreeRow.{free-map, free-length}
 use Rattle.laws.specs.Write.{Wrote, write-row, held-stay, rec-leaves-head, rec-leaves-cells, head-write, head-leaves-recs, head-leaves-cells}

@@ -9,11 +9,11 @@ use lib.ListN.{length, getD, take, drop}
 use lib.Seq.{split-at, append-snoc}
 use Rattle.octets.specs.Octets.{part, put}
 use Rattle.octets.specs.Lists.{All}
-use Rattle.octets.specs.Parts.{length-put, getD-part, part-put-in, part-put-after, length-part}
+use Rattle.octets.specs.PartsLaws.{length-put, getD-part, part-put-in, part-put-after, length-part}
 use Rattle.machine.specs.Limits.{headBytes}
-use Rattle.machine.specs.Rows.{Row, rowOff, places}
+use Rattle.machine.specs.Rows.{Row, rowOff}
+use Rattle.laws.specs.Rows.{places, Held, held-same}
 use Rattle.machine.specs.Counting.{occurs}
-use Rattle.laws.specs.Rows.{Held, held-same}
 use Rattle.laws.specs.Chains.{lead, rowsTo}
 use Rattle.laws.specs.Write.{rowIn}
 use Rattle.links.specs.Link.{linkAt, lastOf, last-has, last-in, link-wrote, link-stay, relink}

@@ -6,14 +6,16 @@ use mathlib.Core.Bool.{true}
 use mathlib.Core.List.{List, [], _∷_, _++_, map}
 use lib.ListN.{getD}
 use Rattle.octets.specs.Octets.{part, num, Bytes}
-use Rattle.octets.specs.Lists.{All, all-to, all-left, all-right}
-use Rattle.octets.specs.Parts.{getD-part, part-part}
+use Rattle.octets.specs.Lists.{All}
+use Rattle.octets.specs.ListsLaws.{all-to, all-left, all-right}
+use Rattle.octets.specs.PartsLaws.{getD-part, part-part}
 use Rattle.machine.specs.Limits.{recCount, recBytes, cellBytes}
 use Rattle.machine.specs.Codes.{heldKind, kindWhole}
 use Rattle.machine.specs.Values.{Cell, Rec, Store}
-use Rattle.machine.specs.Chains.{first}
-use Rattle.machine.specs.Layout.{freeAt, heldAt, wholeAt, freeCellsAt, countAt, nextAt, firstCellAt, sizeAt, sizeWidth, recOff, cellOff, cellPlace, recPlace, freeRow, recRow, cellRow, recRows, cellRows, recAt, cellAt, numAt, decode}
-use Rattle.machine.specs.Sound.{recPlaces, piecePlaces, cellPlaces, cellTests, sound, CellSized, RecSized, Valid}
+use Rattle.machine.specs.Chains.{first, nextAt}
+use Rattle.machine.specs.Layout.{freeAt, heldAt, wholeAt, freeCellsAt, countAt, firstCellAt, sizeAt, sizeWidth, recOff, cellOff, cellPlace, recPlace, freeRow, recRow, cellRow, recRows, cellRows, recAt, cellAt, numAt, decode}
+use Rattle.machine.specs.Sound.{recPlaces, piecePlaces, cellPlaces, cellTests, sound}
+use Rattle.machine.specs.Valid.{CellSized, RecSized, Valid}
 use Rattle.packet.specs.Frame.{largestPiece}
 use borrow.Author.Tests.{leb-true}
 use Rattle.laws.specs.Tests.{every-true}

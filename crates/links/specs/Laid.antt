@@ -8,7 +8,8 @@ use lib.ListN.{length}
 use lib.Dec.{eqb}
 use Rattle.octets.specs.Octets.{part, put}
 use Rattle.octets.specs.Bools.{one}
-use Rattle.octets.specs.Lists.{All, all-to}
+use Rattle.octets.specs.Lists.{All}
+use Rattle.octets.specs.ListsLaws.{all-to}
 use Rattle.machine.specs.Rows.{rowOff}
 use Rattle.machine.specs.Counting.{occurs}
 use Rattle.laws.specs.Counting.{self}

@@ -8,11 +8,11 @@ use mathlib.Core.List.{List, [], _∷_, _++_, map}
 use lib.ListN.{length, getD}
 use Rattle.octets.specs.Octets.{put}
 use Rattle.octets.specs.Lists.{All}
-use Rattle.octets.specs.Parts.{getD-part}
-use Rattle.machine.specs.Rows.{Row, rowOff, places}
+use Rattle.octets.specs.PartsLaws.{getD-part}
+use Rattle.machine.specs.Rows.{Row, rowOff}
+use Rattle.laws.specs.Rows.{places, Held}
 use Rattle.machine.specs.Counting.{occurs}
 use Rattle.laws.specs.Counting.{self}
-use Rattle.laws.specs.Rows.{Held}
 use Rattle.machine.specs.Chains.{first, chainRows}
 use Rattle.laws.specs.Chains.{lead, rowsTo}
 use Rattle.laws.specs.Write.{rowIn, Wrote, write-field, held-stay}

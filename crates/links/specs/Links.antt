@@ -29,7 +29,7 @@ pub record Links (b : List ℕ) : Type 0 where
   pub some : 1 ≤ count b
   pub most : count b ≤ mostCells
   pub long : length b ≡ storeBytes (count b)
-  -- Head: first free record, first held, first whole, first free cell
+  -- Label: first free record, first held, first whole, first free cell
   pub free : RecLink b freeAt
   pub held : RecLink b heldAt
   pub whole : RecLink b wholeAt

@@ -6,18 +6,19 @@ use mathlib.Core.List.{List, [], _∷_, _++_, map}
 use lib.ListN.{length}
 use lib.Dec.{eqb}
 use Rattle.octets.specs.Octets.{part, put}
-use Rattle.octets.specs.Bools.{one, one-le}
-use Rattle.octets.specs.Parts.{length-put}
+use Rattle.octets.specs.Bools.{one}
+use Rattle.octets.specs.BoolsLaws.{one-le}
+use Rattle.octets.specs.PartsLaws.{length-put}
 use Rattle.machine.specs.Limits.{headBytes, recCount, recBytes, cellBytes, storeBytes}
 use Rattle.machine.specs.Codes.{heldKind, kindWhole}
 use Rattle.machine.specs.Values.{Cell, Rec, Store}
-use Rattle.machine.specs.Rows.{pad, places}
+use Rattle.machine.specs.Rows.{pad}
+use Rattle.laws.specs.Rows.{places, Held, held-same}
 use Rattle.machine.specs.Chains.{first, chainRows}
 use Rattle.machine.specs.Counting.{occurs, inside}
 use Rattle.machine.specs.Layout.{recOff, recPlace, cellPlace, cellRow, piecesRows, freePlace, freeRow, recRow, recRows, cellRows, headRow, form, recAt, cellAt}
-use Rattle.machine.specs.Sound.{Valid, RecSized}
+use Rattle.machine.specs.Valid.{Valid, RecSized}
 use Rattle.laws.specs.Counting.{self, one-inside}
-use Rattle.laws.specs.Rows.{Held, held-same}
 use Rattle.laws.specs.Chains.{chain-places}
 use Rattle.laws.specs.FreeRow.{free-map}
 use Rattle.laws.specs.RecRow.{rec-length}

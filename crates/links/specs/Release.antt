@@ -11,14 +11,14 @@ use Rattle.octets.specs.Bools.{one}
 use Rattle.machine.specs.Limits.{headBytes, recCount, recBytes, cellBytes, storeBytes}
 use Rattle.machine.specs.Codes.{heldKind, kindWhole}
 use Rattle.machine.specs.Values.{Rec, Store}
-use Rattle.machine.specs.Rows.{Row, pad, places}
+use Rattle.machine.specs.Rows.{Row, pad}
+use Rattle.laws.specs.Rows.{places, Held, held-left, held-right, held-join, held-same, places-append}
 use Rattle.machine.specs.Chains.{first, chainRows}
 use Rattle.machine.specs.Counting.{occurs, inside}
 use Rattle.machine.specs.Layout.{form, freeAt, freeCellsAt, recPlace, cellPlace, freePlace, freeRow, recRow, cellRow, piecesRows, headRow, recAt, cellAt}
 use Rattle.machine.specs.Sound.{piecePlaces}
 use Rattle.machine.specs.Receive.{freedCells}
 use Rattle.laws.specs.Counting.{one-inside, occurs-append}
-use Rattle.laws.specs.Rows.{Held, held-left, held-right, held-join, held-same, places-append}
 use Rattle.laws.specs.Chains.{lead, chain-places}
 use Rattle.laws.specs.FreeRow.{free-map}
 use Rattle.laws.specs.StoreRows.{pieces-places, pieces-append, rows-append, held-recs, held-cells, held-freeCells}

@@ -4,7 +4,7 @@ use mathlib.Core.Path.{_≡_, refl, ap}
 use mathlib.Core.Bool.{Bool}
 use mathlib.Core.List.{List, [], _∷_, _++_}
 use mathlib.Core.Option.{none, some, Option·none-ne-some, Option·some-injective}
-use Rattle.octets.specs.Bools.{cases}
+use Rattle.octets.specs.BoolsLaws.{cases}
 use Rattle.machine.specs.Find.{find, swap, without}
 
 module _ {A K : Type 0} (same : K → K → Bool) (key : A → K) where

@@ -6,18 +6,20 @@ use mathlib.Core.Path.{_≡_, refl, sym, ap, _∙_, subst}
 use mathlib.Core.List.{List, [], _∷_, _++_, map, append-assoc}
 use lib.ListN.{length}
 use Rattle.octets.specs.Octets.{part, put}
-use Rattle.octets.specs.Bools.{one, one-le}
+use Rattle.octets.specs.Bools.{one}
+use Rattle.octets.specs.BoolsLaws.{one-le}
 use Rattle.machine.specs.Limits.{headBytes, recCount, recBytes, cellBytes, storeBytes}
 use Rattle.machine.specs.Codes.{heldKind}
 use Rattle.machine.specs.Values.{Cell, Rec, Store}
-use Rattle.machine.specs.Rows.{Row, pad, places}
+use Rattle.machine.specs.Rows.{Row, pad}
+use Rattle.laws.specs.Rows.{places, Held, held-right, held-same}
 use Rattle.machine.specs.Chains.{first, chainRows}
 use Rattle.machine.specs.Counting.{occurs, inside}
 use Rattle.machine.specs.Layout.{form, recPlace, cellPlace, freePlace, freeRow, freeCellsAt, recRow, cellRow, recRows, cellRows, piecesRows, headRow, recAt, cellAt}
-use Rattle.machine.specs.Sound.{Valid, piecePlaces}
+use Rattle.machine.specs.Sound.{piecePlaces}
+use Rattle.machine.specs.Valid.{Valid}
 use Rattle.machine.specs.Receive.{freedCells}
 use Rattle.laws.specs.Counting.{one-inside}
-use Rattle.laws.specs.Rows.{Held, held-right, held-same}
 use Rattle.laws.specs.Chains.{lead, rowsTo}
 use Rattle.laws.specs.StoreRows.{freeRows, wholeRows, pieces-places, rec-places, held-held, held-cells, held-freeCells, held-pieces}
 use Rattle.laws.specs.Rep.{Rep, rec-once}

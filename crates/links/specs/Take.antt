@@ -12,12 +12,13 @@ use Rattle.machine.specs.Rows.{Row}
 use Rattle.machine.specs.Chains.{first, chainRows}
 use Rattle.machine.specs.Counting.{occurs}
 use Rattle.machine.specs.Layout.{wholeAt, recPlace, freePlace, freeRow, recRow, piecesRows, headRow, recAt, cellAt}
-use Rattle.machine.specs.Sound.{Valid, piecePlaces}
+use Rattle.machine.specs.Sound.{piecePlaces}
+use Rattle.machine.specs.Valid.{Valid}
 use Rattle.laws.specs.Rows.{Held, held-join, held-same}
 use Rattle.laws.specs.StoreRows.{held-free, held-held, held-whole, held-pieces}
 use Rattle.laws.specs.Rep.{Rep}
 use Rattle.laws.specs.Walks.{recs-once, cells-once}
-use Rattle.octets.specs.Parts.{length-put}
+use Rattle.octets.specs.PartsLaws.{length-put}
 use Rattle.laws.specs.Write.{head-write, head-leaves-recs, head-leaves-cells}
 use Rattle.links.specs.Release.{pieces-around, held-around, releaseBytes, releaseStore, Loose, release-rep}
 

@@ -6,18 +6,18 @@ use mathlib.Core.List.{List, [], _∷_, _++_, map}
 use lib.ListN.{length, getD, drop}
 use lib.Dec.{eqb}
 use Rattle.octets.specs.Octets.{part, put}
-use Rattle.octets.specs.Bools.{one, one-le}
+use Rattle.octets.specs.Bools.{one}
+use Rattle.octets.specs.BoolsLaws.{one-le}
 use Rattle.octets.specs.Lists.{All}
 use Rattle.machine.specs.Limits.{headBytes, recCount, recBytes, cellBytes}
 use Rattle.machine.specs.Codes.{heldKind, kindWhole}
 use Rattle.machine.specs.Values.{Rec, Store}
-use Rattle.machine.specs.Rows.{places}
+use Rattle.laws.specs.Rows.{places, Held, held-left, held-right, held-join}
 use Rattle.machine.specs.Chains.{first, chainRows}
 use Rattle.machine.specs.Counting.{occurs, inside}
 use Rattle.machine.specs.Layout.{heldAt, recPlace, freePlace, freeRow, recRow, headRow, recAt, cellAt, cellOff}
-use Rattle.machine.specs.Sound.{Valid}
+use Rattle.machine.specs.Valid.{Valid}
 use Rattle.laws.specs.Counting.{self, occurs-append, few-inside, one-inside}
-use Rattle.laws.specs.Rows.{Held, held-left, held-right, held-join}
 use Rattle.laws.specs.Chains.{lead, rowsTo}
 use Rattle.laws.specs.FreeRow.{free-map}
 use Rattle.laws.specs.StoreRows.{held-free, held-held, held-whole}

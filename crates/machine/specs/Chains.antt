@@ -11,9 +11,13 @@ abbrev pub first : List ℕ → ℕ
 first [] = 0
 first (p ∷ ps) = p
 
+-- the byte of a row that has its link
+abbrev pub nextAt : ℕ
+nextAt = 0
+
 -- the link of the row at a place
 abbrev pub link : (ℕ → List ℕ) → ℕ → ℕ
-link row p = getD (row p) 0 0
+link row p = getD (row p) nextAt 0
 
 -- the places met by following links from p on, at most n of them
 unfoldable pub walk : (ℕ → ℕ) → ℕ → ℕ → List ℕ

@@ -1,9 +1,92 @@
--- The numbers by which document 01 names roles, kinds and states.
+-- The numbers by which PROTOCOL names refusals, roles, kinds and states, each once.
 use Prim.Native.Nat.{ℕ}
-use mathlib.Core.Bool.{Bool, cond, _||_}
+use mathlib.Core.Bool.{Bool, cond, not, _||_}
 use lib.Dec.{eqb}
 
--- Head: role (1 receive, 2 send)
+-- ---- refusals: "Calls and answers", its table
+
+abbrev pub badFrame : ℕ
+badFrame = 1
+
+abbrev pub shortOutput : ℕ
+shortOutput = 2
+
+abbrev pub badRules : ℕ
+badRules = 3
+
+abbrev pub closedTopic : ℕ
+closedTopic = 4
+
+abbrev pub alreadyWhole : ℕ
+alreadyWhole = 5
+
+abbrev pub tooLong : ℕ
+tooLong = 6
+
+abbrev pub noRecord : ℕ
+noRecord = 7
+
+abbrev pub unknownId : ℕ
+unknownId = 8
+
+abbrev pub pastEnd : ℕ
+pastEnd = 9
+
+abbrev pub highIndex : ℕ
+highIndex = 10
+
+abbrev pub shortPiece : ℕ
+shortPiece = 11
+
+abbrev pub noCell : ℕ
+noCell = 12
+
+abbrev pub wrongCount : ℕ
+wrongCount = 13
+
+abbrev pub gap : ℕ
+gap = 14
+
+abbrev pub wrongTotal : ℕ
+wrongTotal = 15
+
+abbrev pub wrongSum : ℕ
+wrongSum = 16
+
+abbrev pub noKey : ℕ
+noKey = 17
+
+abbrev pub wrongState : ℕ
+wrongState = 18
+
+abbrev pub noSuchPiece : ℕ
+noSuchPiece = 19
+
+abbrev pub noWork : ℕ
+noWork = 20
+
+abbrev pub topicTooLarge : ℕ
+topicTooLarge = 21
+
+abbrev pub idInUse : ℕ
+idInUse = 22
+
+abbrev pub noneWhole : ℕ
+noneWhole = 23
+
+abbrev pub badClock : ℕ
+badClock = 24
+
+abbrev pub unsoundStore : ℕ
+unsoundStore = 25
+
+-- ---- marks, roles, kinds, states
+
+-- a number that means yes or no is yes when it is not 0
+abbrev pub yes : ℕ → Bool
+yes n = not (eqb n 0)
+
+-- Label: role (1 receive, 2 send)
 abbrev pub roleReceive : ℕ
 roleReceive = 1
 

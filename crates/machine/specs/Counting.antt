@@ -1,6 +1,5 @@
 -- "Each in one chain", said by counting: how often a place stands in the chains together.
 use Prim.Native.Nat.{ℕ, zero, suc, _+_}
-use mathlib.Core.Path.{_≡_}
 use mathlib.Core.Bool.{Bool, true, _&&_}
 use mathlib.Core.List.{List, [], _∷_}
 use lib.Dec.{eqb, leb, ltb}
@@ -21,12 +20,9 @@ unfoldable pub each : ℕ → List ℕ → Bool
 each zero l = true
 each (suc n) l = each n l && eqb (occurs (suc n) l) 1
 
--- each place from 1 to n stands in l once, and nothing else does: as a test, and as a fact
+-- each place from 1 to n stands in l once, and nothing else does
 abbrev pub once : ℕ → List ℕ → Bool
 once n l = all (inside n) l && each n l
-
-abbrev pub Once : ℕ → List ℕ → Type 0
-Once n l = (k : ℕ) → occurs k l ≡ one (inside n k)
 
 -- the n places from k on: fresh free chains rise from 1
 unfoldable pub rise : ℕ → ℕ → List ℕ

@@ -2,16 +2,16 @@
 use Prim.Native.Nat.{ℕ, suc}
 use mathlib.Core.List.{List, [], _∷_, _++_, map}
 use lib.ListN.{length, getD, replicate}
-use Rattle.octets.specs.Octets.{part, be, num}
+use Rattle.octets.specs.Octets.{part, be, num, capacity}
 use Rattle.machine.specs.Limits.{headBytes, recCount, recBytes, cellBytes, mostCells, storeBytes}
 use Rattle.machine.specs.Codes.{heldKind, kindWhole}
-use Rattle.machine.specs.Values.{Head, Cell, Sending, Rec, Store}
+use Rattle.machine.specs.Values.{Label, Cell, Sending, Rec, Store}
 use Rattle.machine.specs.Rows.{Row, join, pad, rowOff, rowAt, table}
 use Rattle.machine.specs.Chains.{first, link, walk, chainRows}
 
 -- ---- places of fields
 
--- Head, a byte each: first free record, first held, first whole, first free cell, form 1, C, role, zeros
+-- Label, a byte each: first free record, first held, first whole, first free cell, form 1, C, role, zeros
 abbrev pub freeAt : ℕ
 freeAt = 0
 
@@ -40,9 +40,6 @@ abbrev pub restAt : ℕ
 restAt = 7
 
 -- Record: 0 next, 1 kind, 2 reply, 3 state, 4 timed out, 5 first cell, 6 topic length, 7 slots
-abbrev pub nextAt : ℕ
-nextAt = 0
-
 abbrev pub kindAt : ℕ
 kindAt = 1
 
@@ -115,6 +112,10 @@ addressWidth = 16
 abbrev pub numberWidth : ℕ
 numberWidth = 8
 
+-- a number is below 2^64
+abbrev pub numberLimit : ℕ
+numberLimit = capacity numberWidth
+
 abbrev pub sizeWidth : ℕ
 sizeWidth = 2
 
@@ -142,7 +143,7 @@ recPlace r = r .place
 abbrev pub freePlace : ℕ → ℕ
 freePlace p = p
 
--- Head, its fields, and its row
+-- Label, its fields, and its row
 abbrev pub headFields : Store → List ℕ
 headFields s =
     first (s .free) ∷ first (map recPlace (s .held)) ∷ first (map recPlace (s .whole)) ∷ first (s .freeCells)
@@ -158,14 +159,14 @@ freeRow size next p = pad size (next ∷ [])
 -- Record, its first eight bytes
 abbrev pub recFront : ℕ → ℕ → Rec → List ℕ
 recFront kind next r =
-    next ∷ kind ∷ r .head .reply ∷ r .sending .state ∷ r .sending .timedOut ∷ first (map cellPlace (r .cells))
-    ∷ length (r .head .topic) ∷ r .slots ∷ []
+    next ∷ kind ∷ r .label .reply ∷ r .sending .state ∷ r .sending .timedOut ∷ first (map cellPlace (r .cells))
+    ∷ length (r .label .topic) ∷ r .slots ∷ []
 
 -- Record, its fields, and its row: zeros past the topic
 abbrev pub recFields : ℕ → ℕ → Rec → List (List ℕ)
 recFields kind next r =
-    recFront kind next r ∷ r .head .id ∷ r .head .source ∷ r .head .destination ∷ be numberWidth (r .head .total)
-    ∷ be numberWidth (r .sending .created) ∷ be numberWidth (r .sending .end) ∷ r .head .topic ∷ []
+    recFront kind next r ∷ r .label .id ∷ r .label .source ∷ r .label .destination ∷ be numberWidth (r .label .total)
+    ∷ be numberWidth (r .sending .created) ∷ be numberWidth (r .sending .end) ∷ r .label .topic ∷ []
 
 unfoldable pub recRow : ℕ → ℕ → Rec → List ℕ
 recRow kind next r = pad recBytes (join (recFields kind next r))
@@ -222,8 +223,8 @@ cellOf p row = record {
 }
 
 -- what an init said, and what the sender keeps, from a record's row
-abbrev pub headOf : List ℕ → Head
-headOf row = record {
+abbrev pub labelOf : List ℕ → Label
+labelOf row = record {
   id = part row idAt idWidth;
   source = part row sourceAt addressWidth;
   destination = part row destinationAt addressWidth;
@@ -242,7 +243,7 @@ sendingOf row = record {
 
 -- the record at place p, from its row and its cells
 unfoldable pub recOf : ℕ → List Cell → List ℕ → Rec
-recOf p cells row = record { place = p; head = headOf row; slots = getD row slotsAt 0; sending = sendingOf row; cells = cells }
+recOf p cells row = record { place = p; label = labelOf row; slots = getD row slotsAt 0; sending = sendingOf row; cells = cells }
 
 -- the places of a chain from p on: at most one more than there are places, so that a chain that does not end meets one twice
 abbrev pub recChain : List ℕ → ℕ → List ℕ

@@ -1,5 +1,6 @@
 pub mod Limits
 pub mod Codes
+pub mod Rules
 pub mod Values
 pub mod Tests
 pub mod Rows
@@ -13,7 +14,16 @@ pub mod Pieces
 pub mod Receive
 pub mod Send
 pub mod Outcomes
-pub mod Calls
+pub mod Setup
+pub mod Packet
+pub mod Push
+pub mod Wake
+pub mod Report
+pub mod Take
 pub mod Typed
-pub mod Worked
+pub mod Valid
+pub mod Samples
 pub mod Starred
+pub mod StarredLaws
+pub mod WorkedLaws
+pub mod TabletLaws

@@ -1,5 +1,5 @@
 -- The limits of messages and stores, each once and by name, and what a message's length decides: its slots and its top index. Those of a call's
--- buffers stand in Calls, that of a piece in packet's Frame.
+-- buffers stand with the call, that of a piece in packet's Frame.
 use Prim.Native.Nat.{ℕ, suc, _+_, _*_, _-_, _/_, max}
 use mathlib.Core.Bool.{cond}
 use lib.Dec.{eqb}
@@ -19,6 +19,14 @@ cutBy = 1300
 -- row 11: a piece below 250 is short
 abbrev pub leastPiece : ℕ
 leastPiece = 250
+
+-- Send wake: a piece that was sent is due again after 100 ms
+abbrev pub resendAfter : ℕ
+resendAfter = 100
+
+-- Report: a second has 1,000 ms
+abbrev pub second : ℕ
+second = 1000
 
 -- Stores: 16 + 8 × 328 + 1,380 × C bytes, C from 1 to 45
 abbrev pub headBytes : ℕ

@@ -1,10 +1,10 @@
--- What the office's store becomes: document 01, "Steps", init to aborted, and take. Each step is total: where its record is missing, nothing changes.
+-- What the office's store becomes: PROTOCOL, "The office". Each step is total: where its record is missing, nothing changes.
 use Prim.Native.Nat.{ℕ, suc, max}
 use mathlib.Core.Bool.{cond}
 use mathlib.Core.List.{List, [], _∷_, _++_, map}
 use mathlib.Core.Option.{Option, none, some}
 use Rattle.machine.specs.Limits.{slotsOf}
-use Rattle.machine.specs.Values.{Head, Rec, Store, idle, Key, keyOf, sameKey}
+use Rattle.machine.specs.Values.{Label, Rec, Store, idle, Key, keyOf, sameKey}
 use Rattle.machine.specs.Chains.{first}
 use Rattle.machine.specs.Layout.{cellPlace}
 use Rattle.machine.specs.Find.{find, swap, without, isSome}
@@ -13,7 +13,7 @@ use Rattle.machine.specs.Pieces.{pieceAt, putPiece, rest}
 -- ---- records by key
 
 abbrev pub recKey : Rec → Key
-recKey r = keyOf (r .head)
+recKey r = keyOf (r .label)
 
 -- the record with a key
 abbrev pub found : Key → List Rec → Option Rec
@@ -34,11 +34,11 @@ freedCells r l = map cellPlace (r .cells) ++ l
 -- ---- init
 
 -- a record without pieces: slots become ceil(length/1,300)
-abbrev pub started : ℕ → Head → Rec
-started place h = record { place = place; head = h; slots = slotsOf (h .total); sending = idle; cells = [] }
+abbrev pub started : ℕ → Label → Rec
+started place h = record { place = place; label = h; slots = slotsOf (h .total); sending = idle; cells = [] }
 
 -- a new id takes the first free record and goes first; "a held id restarts with no pieces; its record keeps its place"
-unfoldable pub initAt : Option Rec → Head → Store → Store
+unfoldable pub initAt : Option Rec → Label → Store → Store
 initAt none h s = record {
   setup = s .setup;
   free = rest (s .free);
@@ -55,7 +55,7 @@ initAt (some r) h s = record {
 }
 
 -- Init: the step for what an init says
-abbrev pub initStep : Head → Store → Store
+abbrev pub initStep : Label → Store → Store
 initStep h s = initAt (found (keyOf h) (s .held)) h s
 
 -- ---- chunk
@@ -64,7 +64,7 @@ initStep h s = initAt (found (keyOf h) (s .held)) h s
 abbrev pub withPiece : ℕ → ℕ → List ℕ → Rec → Rec
 withPiece place index bytes r = record {
   place = r .place;
-  head = r .head;
+  label = r .label;
   slots = max (r .slots) (suc index);
   sending = r .sending;
   cells = putPiece place index bytes (r .cells);

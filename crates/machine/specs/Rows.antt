@@ -1,7 +1,7 @@
 -- Rows of one size at places that count from 1, in general: how a row is made of fields, and how bytes are made of rows.
 use Prim.Native.Nat.{ℕ, zero, suc, _+_, _*_, _-_}
 use mathlib.Core.Bool.{Bool, cond}
-use mathlib.Core.List.{List, [], _∷_, _++_, map}
+use mathlib.Core.List.{List, [], _∷_, _++_}
 use lib.ListN.{length, replicate}
 use lib.Dec.{eqb}
 use Rattle.octets.specs.Octets.{part, zeros}
@@ -27,9 +27,6 @@ rowOff start size k = start + size * (k - 1)
 pub record Row : Type 0 where
   pub place : ℕ
   pub bytes : List ℕ
-
-abbrev pub places : List Row → List ℕ
-places rows = map (λ (r : Row). r .place) rows
 
 -- the row at place k
 abbrev pub rowAt : List Row → ℕ → List ℕ

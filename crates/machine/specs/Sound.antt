@@ -1,22 +1,21 @@
--- Which stores there are: `sound` tests bytes as document 01's "Sound" says, `Valid` says the same of a store, and `fresh` is the store that setup
--- makes. `sound` looks at bytes only where `decode` forgets them; everything else is asked of the decoded store. What the paragraph does not name is
--- not asked: an end after created, a timed-out record's state, pieces' states while nothing is in progress, an arriving record's sum of sizes.
-use Prim.Native.Nat.{ℕ, suc, _+_, _-_, _/_, _≤_, _<_}
-use mathlib.Core.Path.{_≡_}
+-- Which stores there are: `sound` tests bytes as PROTOCOL's "Stores" says, and `fresh` is the store that setup makes. `sound` looks at bytes only where
+-- `decode` forgets them; everything else is asked of the decoded store. What that part does not name is not asked: an end after created, a timed-out
+-- record's state, pieces' states while nothing is in progress, an arriving record's sum of sizes.
+use Prim.Native.Nat.{ℕ, suc, _+_, _-_, _/_}
 use mathlib.Core.Bool.{Bool, true, false, _&&_, _||_, not, cond}
 use mathlib.Core.List.{List, [], _∷_, _++_, map}
 use lib.ListN.{length, getD}
 use lib.Dec.{eqb, leb, ltb}
-use Rattle.octets.specs.Octets.{part, pow, Bytes, zeros}
-use Rattle.octets.specs.Lists.{all, All}
+use Rattle.octets.specs.Octets.{part, Bytes, zeros}
+use Rattle.octets.specs.Lists.{all}
 use Rattle.packet.specs.Frame.{largestPiece}
-use Rattle.machine.specs.Limits.{longest, largestTopic, cutBy, headBytes, recCount, recBytes, cellBytes, mostCells, storeBytes, slotsOf, mostSlots}
+use Rattle.machine.specs.Limits.{longest, cutBy, headBytes, recCount, recBytes, cellBytes, mostCells, storeBytes, slotsOf, mostSlots}
 use Rattle.machine.specs.Codes.{roleReceive, kindArriving, kindWhole, kindLeaving, heldKind, stateAborted, pieceSent, pieceAcked, isRole}
-use Rattle.machine.specs.Values.{Head, Cell, Sending, Rec, Store, keyOf, sameKey}
+use Rattle.machine.specs.Values.{Cell, Sending, Rec, Store, keyOf, sameKey}
 use Rattle.machine.specs.Tests.{every}
 use Rattle.machine.specs.Rows.{zeroFrom}
-use Rattle.machine.specs.Counting.{inside, once, Once, rise}
-use Rattle.machine.specs.Layout.{formAt, form, restAt, kindAt, topicSizeAt, topicAt, sizeAt, gapAt, bytesAt, idWidth, addressWidth, numberWidth, sizeWidth, gapWidth, cellPlace, recPlace, recAt, cellAt, numAt, decode}
+use Rattle.machine.specs.Counting.{inside, once, rise}
+use Rattle.machine.specs.Layout.{formAt, form, restAt, kindAt, topicSizeAt, topicAt, sizeAt, gapAt, bytesAt, sizeWidth, gapWidth, cellPlace, recPlace, recAt, cellAt, numAt, decode}
 
 -- ---- the head
 
@@ -63,7 +62,7 @@ sizes (c ∷ l) = length (c .bytes) + sizes l
 
 -- complete: every index below slots (as many pieces as slots, for indices rise below slots), sizes adding up to length
 abbrev pub isComplete : Rec → Bool
-isComplete r = eqb (length (r .cells)) (r .slots) && eqb (sizes (r .cells)) (r .head .total)
+isComplete r = eqb (length (r .cells)) (r .slots) && eqb (sizes (r .cells)) (r .label .total)
 
 -- n bytes cut by 1,300: each piece has 1,300 bytes, but the last what is left
 unfoldable pub isCut : ℕ → List Cell → Bool
@@ -74,15 +73,15 @@ isCut n (c ∷ l) = ltb 0 n && eqb (length (c .bytes)) (cond (leb n cutBy) n cut
 abbrev pub recTests : ℕ → ℕ → Rec → List Bool
 recTests role kind r =
     -- fields in range: the reply mark; length to 32,500; the sender's; the pieces'
-    isMark (r .head .reply) ∷ leb (r .head .total) longest ∷ sendingFits role (r .sending) ∷ all (cellFits role) (r .cells)
+    isMark (r .label .reply) ∷ leb (r .label .total) longest ∷ sendingFits role (r .sending) ∷ all (cellFits role) (r .cells)
     -- indices rising below slots
     ∷ rising 0 (r .slots) (r .cells)
     -- slots from ceil(length/1,300) to the larger of that and top + 1
-    ∷ leb (slotsOf (r .head .total)) (r .slots) ∷ leb (r .slots) (mostSlots (r .head .total))
+    ∷ leb (slotsOf (r .label .total)) (r .slots) ∷ leb (r .slots) (mostSlots (r .label .total))
     -- whole and leaving pieces complete
     ∷ (eqb kind kindArriving || isComplete r)
     -- leaving ones cut by 1,300
-    ∷ (not (eqb kind kindLeaving) || isCut (r .head .total) (r .cells)) ∷ []
+    ∷ (not (eqb kind kindLeaving) || isCut (r .label .total) (r .cells)) ∷ []
 
 unfoldable pub recFits : ℕ → ℕ → Rec → Bool
 recFits role kind r = every (recTests role kind r)
@@ -97,7 +96,7 @@ noRec (r ∷ l) = false
 -- ids unique
 unfoldable pub distinct : List Rec → Bool
 distinct [] = true
-distinct (r ∷ l) = all (λ (q : Rec). not (sameKey (keyOf (r .head)) (keyOf (q .head)))) l && distinct l
+distinct (r ∷ l) = all (λ (q : Rec). not (sameKey (keyOf (r .label)) (keyOf (q .label)))) l && distinct l
 
 -- the places of all records, chain by chain
 abbrev pub recPlaces : Store → List ℕ
@@ -155,47 +154,6 @@ soundTests role b s =
 -- row 25: bytes are sound, as a store of a role
 unfoldable pub sound : ℕ → List ℕ → Bool
 sound role b = every (soundTests role b (decode b))
-
--- ---- valid
-
--- bytes, exactly n or at most n of them
-abbrev pub Exactly : ℕ → List ℕ → Type 0
-Exactly n l = (length l ≡ n) × Bytes l
-
-abbrev pub AtMost : ℕ → List ℕ → Type 0
-AtMost n l = (length l ≤ n) × Bytes l
-
--- what the fields of a record's head, of a cell and of a record hold by their width
-pub record HeadSized (h : Head) : Type 0 where
-  pub id : Exactly idWidth (h .id)
-  pub source : Exactly addressWidth (h .source)
-  pub destination : Exactly addressWidth (h .destination)
-  pub total : h .total < pow numberWidth
-  pub topic : AtMost largestTopic (h .topic)
-
-pub record CellSized (c : Cell) : Type 0 where
-  pub bytes : AtMost largestPiece (c .bytes)
-  pub stamp : c .stamp < pow numberWidth
-
-pub record RecSized (r : Rec) : Type 0 where
-  pub head : HeadSized (r .head)
-  pub created : r .sending .created < pow numberWidth
-  pub end : r .sending .end < pow numberWidth
-  pub cells : All CellSized (r .cells)
-
--- a store of a role that bytes can hold: the tests of `sound` as facts, and fields that fit their width
-pub record Valid (role : ℕ) (s : Store) : Type 0 where
-  pub some : 1 ≤ s .setup .cells
-  pub most : s .setup .cells ≤ mostCells
-  pub roles : isRole role ≡ true
-  pub inRole : s .setup .role ≡ role
-  pub held : All (λ (r : Rec). recFits role (heldKind role) r ≡ true) (s .held)
-  pub whole : All (λ (r : Rec). recFits role kindWhole r ≡ true) (s .whole)
-  pub kinds : (eqb role roleReceive || noRec (s .whole)) ≡ true
-  pub recs : Once recCount (recPlaces s)
-  pub cells : Once (s .setup .cells) (cellPlaces s)
-  pub ids : distinct (s .held ++ s .whole) ≡ true
-  pub sized : All RecSized (s .held ++ s .whole)
 
 -- ---- setup
 

@@ -4,8 +4,8 @@ use mathlib.Core.Bool.{Bool}
 use mathlib.Core.List.{List}
 use Rattle.octets.specs.Octets.{same}
 
--- what an init says: alike in a record of a store and on a page of the ledger. `total` is document 01's length.
-pub record Head : Type 0 where
+-- what an init says: alike in a record of a store and on a page of the ledger. `total` is its length in bytes.
+pub record Label : Type 0 where
   pub id : List ℕ
   pub source : List ℕ
   pub destination : List ℕ
@@ -35,7 +35,7 @@ idle = record { state = 0; timedOut = 0; created = 0; end = 0 }
 -- a record with its chain of cells, in index order
 pub record Rec : Type 0 where
   pub place : ℕ
-  pub head : Head
+  pub label : Label
   pub slots : ℕ
   pub sending : Sending
   pub cells : List Cell
@@ -59,7 +59,7 @@ pub record Store : Type 0 where
 abbrev pub Key : Type 0
 Key = List ℕ
 
-abbrev pub keyOf : Head → Key
+abbrev pub keyOf : Label → Key
 keyOf h = h .id
 
 -- two keys are one

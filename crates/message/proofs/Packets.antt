@@ -13,8 +13,8 @@ use Rattle.machine.specs.Layout.{decode, encode}
 use Rattle.machine.specs.Sound.{sound}
 use Rattle.machine.specs.Refusals.{Refusals, refusal}
 use Rattle.machine.specs.Outcomes.{PacketOutcome}
-use Rattle.machine.specs.Calls.{Packet, kind, frameBytes, packetRoom, isKind, kindRow, recvStep, sendStep, kindOut, kindWake, packetRow, packetAt, packetDone}
-use Rattle.store.specs.Refuse.{next, stop}
+use Rattle.machine.specs.Packet.{Packet, kind, frameBytes, packetRoom, isKind, kindRow, recvStep, sendStep, kindOut, kindWake, packetRow, packetAt, packetAnswer}
+use Rattle.store.specs.RefuseLaws.{next, stop}
 use Rattle.message.specs.Both.{Both, both}
 
 module _ (p : Packet) (b c out : List ℕ) where
@@ -22,7 +22,7 @@ module _ (p : Packet) (b c out : List ℕ) where
   row = refusal (packetRow p b c out)
 
   abbrev outcome : PacketOutcome
-  outcome = packetDone p b c out
+  outcome = packetAnswer p b c out
 
   -- a refusal, once its number is known
   refused : (n m k w : ℕ) → n ≡ row → (n ≡ 0 → ⊥) → m ≡ n → k ≡ 0 → w ≡ 0 → record { number = m; run = k; wake = w; recv = b; send = c; out = out } ≡ outcome

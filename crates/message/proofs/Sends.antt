@@ -11,9 +11,11 @@ use Rattle.machine.specs.Layout.{decode}
 use Rattle.machine.specs.Sound.{sound}
 use Rattle.machine.specs.Receive.{found}
 use Rattle.machine.specs.Send.{pushStep, initOut}
-use Rattle.machine.specs.Refusals.{Refusals, refusal}
-use Rattle.machine.specs.Calls.{Push, heldRow, sendAt, pushTests, pushRow, pushHead, pushDone, sendWake, deadlineWake, wakeRoom, wakeRow, wakeStep, wakeRun, wakeOf}
-use Rattle.store.specs.Refuse.{next, stop}
+use Rattle.machine.specs.Refusals.{Refusals, refusal, heldRow}
+use Rattle.machine.specs.Outcomes.{sendAt}
+use Rattle.machine.specs.Push.{Push, pushTests, pushRow, pushLabel, pushAnswer}
+use Rattle.machine.specs.Wake.{sendWake, deadlineWake, wakeRoom, wakeRow, wakeStep, wakeRun, wakeOf}
+use Rattle.store.specs.RefuseLaws.{next, stop}
 
 -- with a row whose first test is the store's
 module _ (b out : List ℕ) (row : Refusals) (s : Store) (run : List ℕ) where
@@ -27,15 +29,15 @@ module _ (b out : List ℕ) (row : Refusals) (s : Store) (run : List ℕ) where
   is-sound e = ap (λ (n : ℕ). sendAt n s run b out) (sym (next (sound roleSend b) 25 row e))
 
 module _ (p : Push) (b out : List ℕ) where
-  pub push-unsound : (m k w : ℕ) → sound roleSend b ≡ false → m ≡ 25 → k ≡ 0 → w ≡ 0 → record { number = m; run = k; wake = w; send = b; out = out } ≡ pushDone p b out
+  pub push-unsound : (m k w : ℕ) → sound roleSend b ≡ false → m ≡ 25 → k ≡ 0 → w ≡ 0 → record { number = m; run = k; wake = w; send = b; out = out } ≡ pushAnswer p b out
   unfolding pushRow
   push-unsound m k w e x y z =
-      unsound b out (pushTests p (decode b) (length out)) (pushStep (pushHead p) (p .created) (p .created + p .try) (p .bytes) (decode b)) (initOut (pushHead p)) m k w e x y z
+      unsound b out (pushTests p (decode b) (length out)) (pushStep (pushLabel p) (p .created) (p .created + p .try) (p .bytes) (decode b)) (initOut (pushLabel p)) m k w e x y z
 
   pub push-sound : sound roleSend b ≡ true
-      → sendAt (refusal (pushTests p (decode b) (length out))) (pushStep (pushHead p) (p .created) (p .created + p .try) (p .bytes) (decode b)) (initOut (pushHead p)) b out ≡ pushDone p b out
+      → sendAt (refusal (pushTests p (decode b) (length out))) (pushStep (pushLabel p) (p .created) (p .created + p .try) (p .bytes) (decode b)) (initOut (pushLabel p)) b out ≡ pushAnswer p b out
   unfolding pushRow
-  push-sound e = is-sound b out (pushTests p (decode b) (length out)) (pushStep (pushHead p) (p .created) (p .created + p .try) (p .bytes) (decode b)) (initOut (pushHead p)) e
+  push-sound e = is-sound b out (pushTests p (decode b) (length out)) (pushStep (pushLabel p) (p .created) (p .created + p .try) (p .bytes) (decode b)) (initOut (pushLabel p)) e
 
 module _ (b : List ℕ) (kind : ℕ) (id : List ℕ) (clock : ℕ) (out : List ℕ) where
   abbrev row : Refusals

@@ -7,23 +7,23 @@ use mathlib.Core.List.{List, []}
 use lib.ListN.{length}
 use lib.Dec.{eqb}
 use Rattle.octets.specs.Octets.{put, Bytes}
-use Rattle.octets.specs.Parts.{put-nil}
-use Rattle.octets.specs.Bools.{cases}
+use Rattle.octets.specs.PartsLaws.{put-nil}
+use Rattle.octets.specs.BoolsLaws.{cases}
 use Rattle.packet.specs.declared.header.Kind.{Kind}
 use Rattle.packet.specs.declared.header.Kind.the-variants.{Init, Chunk, Done, Read, Aborted, AckInit, AckChunk, AckDone, Nothing}
 use Rattle.packet.specs.Frame.{kindOf, flagsOf, idOf, chunkIndex, chunkOffset, chunkSize, piece, doneCount, doneSum}
 use Rattle.packet.specs.Outgoing.{entry, replyPacket}
-use Rattle.packet.specs.Lengths.{length-entry, length-reply}
-use Rattle.machine.specs.Codes.{roleReceive, roleSend, stateInit, stateInProgress, stateReceived, stateRead}
+use Rattle.packet.specs.LengthsLaws.{length-entry, length-reply}
+use Rattle.machine.specs.Codes.{roleReceive, roleSend, stateInit, stateInProgress, stateReceived, stateRead, yes}
 use Rattle.machine.specs.Layout.{encode, decode}
 use Rattle.machine.specs.Receive.{found, initStep, chunkStep, doneStep, dropStep}
 use Rattle.machine.specs.Send.{change, withState, ackPiece}
-use Rattle.machine.specs.Refusals.{refusal}
-use Rattle.machine.specs.Calls.{Packet, kind, yes, heldRow, initRow, initHead, chunkRow, doneRow, stateRow, ackChunkRow, kindRow, recvStep, sendStep, replied, kindOut, frameBytes, arrival, replyBytes}
+use Rattle.machine.specs.Refusals.{refusal, heldRow}
+use Rattle.machine.specs.Packet.{Packet, kind, initRow, initLabel, chunkRow, doneRow, stateRow, ackChunkRow, kindRow, recvStep, sendStep, replied, kindOut, frameBytes, arrival, replyBytes}
 use borrow.Author.Tests.{eq-eqb, ne-eqb}
 use Rattle.laws.specs.SoundValid.{sound-valid}
 use Rattle.store.specs.HeldAt.{Receives, Sends}
-use Rattle.store.specs.Refuse.{stepped}
+use Rattle.store.specs.Step.{stepped}
 use Rattle.message.specs.Both.{Both, bothOf, both, replyOut}
 
 -- a kind that is told
@@ -51,7 +51,7 @@ module _ (p : Packet) (b c : List ℕ) where
     abbrev k : List ℕ
     k = idOf (p .frame)
 
-    pub init-arm : kind p ≡ Init → record { number = n; store = l } ≡ stepped (refusal (initRow p (decode b))) (initStep (initHead p) (decode b)) b → record { number = n; recv = l; send = c } ≡ both p b c
+    pub init-arm : kind p ≡ Init → record { number = n; store = l } ≡ stepped (refusal (initRow p (decode b))) (initStep (initLabel p) (decode b)) b → record { number = n; recv = l; send = c } ≡ both p b c
     unfolding kindRow recvStep sendStep
     init-arm e w = told p b c Init (record { number = n; recv = l; send = c }) e (receives Init n l yc tc refl w)
 

@@ -6,7 +6,7 @@ use lib.Dec.{eqb}
 use Rattle.packet.specs.declared.header.Kind.{Kind}
 use Rattle.machine.specs.Layout.{encode, decode}
 use Rattle.machine.specs.Refusals.{refusal}
-use Rattle.machine.specs.Calls.{Packet, kind, kindRow, recvStep, sendStep, kindOut, arrival}
+use Rattle.machine.specs.Packet.{Packet, kind, kindRow, recvStep, sendStep, kindOut, arrival}
 
 -- a number, and both stores
 pub record Both : Type 0 where

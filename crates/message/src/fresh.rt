@@ -2,7 +2,7 @@
 
 use answer::Answer;
 ghost use mathlib.Core.Path.{_≡_};
-ghost use Rattle.machine.specs.Calls.{setupOf};
+ghost use Rattle.machine.specs.Setup.{setupOf};
 
 // Makes the store fresh, in a role: 1 to receive, 2 to send.
 pub fn setup(store: &mut [u8], role: u64) -> Answer

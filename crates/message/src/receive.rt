@@ -5,7 +5,8 @@ use answer::Answer;
 use packet::run;
 use rows::head;
 ghost use mathlib.Core.Path.{_≡_};
-ghost use Rattle.machine.specs.Calls.{packetOf, takeOf};
+ghost use Rattle.machine.specs.Packet.{packetOf};
+ghost use Rattle.machine.specs.Take.{takeOf};
 
 // The bytes of a frame.
 const FRAME: usize = 1400;

@@ -3,7 +3,9 @@
 use answer::Answer;
 use rows::head;
 ghost use mathlib.Core.Path.{_≡_};
-ghost use Rattle.machine.specs.Calls.{pushOf, wakeOf, reportOf};
+ghost use Rattle.machine.specs.Push.{pushOf};
+ghost use Rattle.machine.specs.Wake.{wakeOf};
+ghost use Rattle.machine.specs.Report.{reportOf};
 
 // A message to be sent: its init goes into `run`. Times are in milliseconds.
 pub fn push(

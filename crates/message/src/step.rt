@@ -13,7 +13,7 @@ ghost use Prim.Native.Nat.{_≤_};
 ghost use lib.ListN.{length};
 ghost use Rattle.octets.specs.Octets.{put};
 ghost use Rattle.packet.specs.Frame.{kindOf, flagsOf};
-ghost use Rattle.machine.specs.Calls.{frameBytes, packetRoom, isKind, kindWake, arrival, replyBytes};
+ghost use Rattle.machine.specs.Packet.{frameBytes, packetRoom, isKind, kindWake, arrival, replyBytes};
 ghost use Rattle.store.specs.HeldAt.{Receives, Sends};
 ghost use Rattle.message.specs.Both.{both, replyOut};
 

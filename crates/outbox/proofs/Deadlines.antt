@@ -7,19 +7,19 @@ use mathlib.Core.Option.{Option, some}
 use lib.ListN.{length}
 use lib.Dec.{eqb}
 use Rattle.octets.specs.Octets.{put, Bytes}
-use Rattle.octets.specs.Parts.{put-nil}
+use Rattle.octets.specs.PartsLaws.{put-nil}
 use Rattle.packet.specs.Outgoing.{entry, header, abortedPacket}
-use Rattle.packet.specs.Lengths.{length-entry, length-header}
+use Rattle.packet.specs.LengthsLaws.{length-entry, length-header}
 use Rattle.machine.specs.Codes.{roleSend, stateInit, stateInProgress}
-use Rattle.machine.specs.Values.{Head, Sending, Rec}
-use Rattle.machine.specs.Layout.{idWidth, addressWidth, headOf, sendingOf, encode, decode}
-use Rattle.machine.specs.Sound.{HeadSized}
+use Rattle.machine.specs.Values.{Label, Sending, Rec}
+use Rattle.machine.specs.Layout.{idWidth, addressWidth, labelOf, sendingOf, encode, decode}
+use Rattle.machine.specs.Valid.{LabelSized}
 use Rattle.machine.specs.Receive.{dropAt, dropStep}
 use Rattle.machine.specs.Send.{unsettled, timedOut, abortedOut, deadlineOut, change, deadlineAt}
 use Rattle.store.specs.HeldAt.{rowIn, recIn, keyIn, HeldAt}
-use Rattle.store.specs.Met.{rec-head, rec-sending, held-here}
+use Rattle.store.specs.MetLaws.{rec-label, rec-sending, held-here}
 use Rattle.outbox.specs.Late.{abortedOf}
-use Rattle.outbox.specs.Partly.{change-is}
+use Rattle.outbox.specs.PartlyLaws.{change-is}
 
 -- the mark that is read is the record's
 pub mark-read : (b : List ℕ) (at mark : ℕ) → mark ≡ sendingOf (rowIn b at) .timedOut → eqb mark 1 ≡ eqb (recIn b at .sending .timedOut) 1
@@ -29,16 +29,16 @@ module _ (b : List ℕ) (at : ℕ) where
   abbrev r : Rec
   r = recIn b at
 
-  head : headOf (rowIn b at) ≡ r .head
-  head = sym (rec-head b at)
+  head : labelOf (rowIn b at) ≡ r .label
+  head = sym (rec-label b at)
 
   -- its names, as they are read, have their widths
-  pub names-long : HeadSized (r .head)
-      → (length (headOf (rowIn b at) .source) ≡ addressWidth) × (length (headOf (rowIn b at) .destination) ≡ addressWidth) × (length (headOf (rowIn b at) .id) ≡ idWidth)
+  pub names-long : LabelSized (r .label)
+      → (length (labelOf (rowIn b at) .source) ≡ addressWidth) × (length (labelOf (rowIn b at) .destination) ≡ addressWidth) × (length (labelOf (rowIn b at) .id) ≡ idWidth)
   names-long z = (
-    ap (λ (h : Head). length (h .source)) head ∙ z .source .0,
-    ap (λ (h : Head). length (h .destination)) head ∙ z .destination .0,
-    ap (λ (h : Head). length (h .id)) head ∙ z .id .0,
+    ap (λ (h : Label). length (h .source)) head ∙ z .source .0,
+    ap (λ (h : Label). length (h .destination)) head ∙ z .destination .0,
+    ap (λ (h : Label). length (h .id)) head ∙ z .id .0,
   )
 
   -- ---- the aborted packet
@@ -52,17 +52,17 @@ module _ (b : List ℕ) (at : ℕ) where
         let q : abortedOf r ≡ [] = rw (sym settled-is ∙ e) in
         (ap length (sym q), sym (ap (put run 0) q ∙ put-nil run 0))
 
-    pub aborted-put : HeadSized (r .head) → (eqb s stateInit || eqb s stateInProgress) ≡ true → (run out from to id : List ℕ) → from ≡ headOf (rowIn b at) .source
-        → to ≡ headOf (rowIn b at) .destination → id ≡ headOf (rowIn b at) .id → out ≡ put run 0 (entry from to (header id 32))
+    pub aborted-put : LabelSized (r .label) → (eqb s stateInit || eqb s stateInProgress) ≡ true → (run out from to id : List ℕ) → from ≡ labelOf (rowIn b at) .source
+        → to ≡ labelOf (rowIn b at) .destination → id ≡ labelOf (rowIn b at) .id → out ≡ put run 0 (entry from to (header id 32))
         → (34 + 12 ≡ length (abortedOf r)) × (out ≡ put run 0 (abortedOf r))
     aborted-put z e run out from to id f t i w =
-        let q : abortedOf r ≡ abortedOut (r .head) = rw (sym settled-is ∙ e) in
-        let h : Head = r .head in
+        let q : abortedOf r ≡ abortedOut (r .label) = rw (sym settled-is ∙ e) in
+        let h : Label = r .label in
         let n : length (abortedOut h) ≡ 34 + 12 =
         length-entry (h .source) (h .destination) (abortedPacket (h .id)) (z .source .0) (z .destination .0) ∙ ap (λ (k : ℕ). 34 + k) (length-header (h .id) 32 (z .id .0)) in (
           sym (ap length q ∙ n),
           w
-              ∙ (λ j. put run 0 (entry ((f ∙ ap (λ (x : Head). x .source) head) j) ((t ∙ ap (λ (x : Head). x .destination) head) j) (header ((i ∙ ap (λ (x : Head). x .id) head) j) 32)))
+              ∙ (λ j. put run 0 (entry ((f ∙ ap (λ (x : Label). x .source) head) j) ((t ∙ ap (λ (x : Label). x .destination) head) j) (header ((i ∙ ap (λ (x : Label). x .id) head) j) 32)))
               ∙ ap (put run 0) (sym q),
         )
 

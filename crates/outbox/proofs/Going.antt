@@ -6,7 +6,7 @@ use mathlib.Core.Bool.{cond}
 use mathlib.Core.List.{List, [], _∷_, _++_, map, append-nil, append-assoc}
 use lib.ListN.{length, getD, length-append}
 use Rattle.octets.specs.Octets.{put, Bytes}
-use Rattle.octets.specs.Parts.{length-put, length-part, put-nil, more}
+use Rattle.octets.specs.PartsLaws.{length-put, length-part, put-nil, more}
 use Rattle.machine.specs.Codes.{roleSend}
 use Rattle.machine.specs.Values.{Cell, Rec}
 use Rattle.machine.specs.Chains.{first}
@@ -14,12 +14,12 @@ use Rattle.machine.specs.Layout.{idAt, firstCellAt, recOff, recOf, cellPlace, c
 use Rattle.machine.specs.Send.{withCells, changeAt, change, due, stamped, chunkOut, dueOut}
 use Rattle.machine.specs.Typed.{TypedClock}
 use Rattle.store.specs.HeldAt.{placeAt, recIn, keyIn, HeldAt}
-use Rattle.store.specs.Met.{here-fine, here-sized}
-use Rattle.outbox.specs.Sending.{namesWidth, namesIn, chunkOf, pieceOut, stampedIn, Turn, Sends, Wakes, stampedDue, dueOf}
-use Rattle.outbox.specs.Here.{here, first-is}
-use Rattle.outbox.specs.Entries.{chunk-is}
-use Rattle.outbox.specs.Room.{sendRoom, due-more, first-room, more-room, few}
-use Rattle.outbox.specs.Partly.{partly, change-is, unchanged, partly-links, partly-long, next-in, next-read, next-leads, next-stamped}
+use Rattle.store.specs.MetLaws.{here-fine, here-sized}
+use Rattle.outbox.specs.Sending.{namesWidth, namesIn, chunkOf, pieceOut, stampedIn, Turn, Sends, Wakes, stampedDue, dueOf, sendRoom}
+use Rattle.outbox.specs.HereLaws.{here, first-is}
+use Rattle.outbox.specs.EntriesLaws.{chunk-is}
+use Rattle.outbox.specs.RoomLaws.{due-more, first-room, more-room, few}
+use Rattle.outbox.specs.PartlyLaws.{partly, change-is, unchanged, partly-links, partly-long, next-in, next-read, next-leads, next-stamped}
 
 -- n pieces were passed: those that were due stand in the run up to `pos` and are stamped; the first of those that are left is in the cell at place x
 pub record Going (b : List ℕ) (at clock : ℕ) (out d run : List ℕ) (x pos n : ℕ) : Type 0 where
@@ -29,8 +29,8 @@ pub record Going (b : List ℕ) (at clock : ℕ) (out d run : List ℕ) (x pos n
   pub turns : n ≡ length sent
   pub leads : x ≡ first (map cellPlace left)
   pub store : d ≡ encode (partly clock b at sent left)
-  pub ends : pos ≡ length (dueOut clock (recIn b at .head) sent)
-  pub written : run ≡ put out 0 (dueOut clock (recIn b at .head) sent)
+  pub ends : pos ≡ length (dueOut clock (recIn b at .label) sent)
+  pub written : run ≡ put out 0 (dueOut clock (recIn b at .label) sent)
 
 module _ (b : List ℕ) (y : Bytes b) (at : ℕ) (h : HeldAt roleSend b at) (clock : ℕ) (t : TypedClock clock) (out : List ℕ) (room : sendRoom ≤ length out) where
   abbrev r : Rec
@@ -54,7 +54,7 @@ module _ (b : List ℕ) (y : Bytes b) (at : ℕ) (h : HeldAt roleSend b at) (clo
     going-long = (
       partly-long b y at h clock t (g .sent) (g .left) (g .parts) d (g .store),
       ap length (g .written)
-          ∙ length-put out 0 (dueOut clock (r .head) (g .sent)) (omega (arith, first-room clock r (here-fine roleSend b y at h) (here-sized roleSend b y at h .head) (g .sent) (g .left) (g .parts))),
+          ∙ length-put out 0 (dueOut clock (r .label) (g .sent)) (omega (arith, first-room clock r (here-fine roleSend b y at h) (here-sized roleSend b y at h .label) (g .sent) (g .left) (g .parts))),
     )
 
     -- ---- a piece is left
@@ -76,14 +76,14 @@ module _ (b : List ℕ) (y : Bytes b) (at : ℕ) (h : HeldAt roleSend b at) (clo
                 fits = omega (
                   arith,
                   ap (λ (a : Cell). length (a .bytes)) e,
-                  more-room clock r (here-fine roleSend b y at h) (here-sized roleSend b y at h .head) (g .sent) c left parts,
+                  more-room clock r (here-fine roleSend b y at h) (here-sized roleSend b y at h .label) (g .sent) c left parts,
                   g .ends,
                   going-long .1,
                 );
               }
 
       -- what is sent of a piece, by the record's names and by its head
-      piece-is : (c : Cell) → pieceOut clock names c ≡ cond (due clock c) (chunkOut (r .head) c) []
+      piece-is : (c : Cell) → pieceOut clock names c ≡ cond (due clock c) (chunkOut (r .label) c) []
       unfolding recOf
       piece-is c = ap (λ (v : List ℕ). cond (due clock c) v []) (ap (λ (m : List ℕ). chunkOf m c) named ∙ chunk-is b (placeAt b at) c)
 
@@ -95,9 +95,9 @@ module _ (b : List ℕ) (y : Bytes b) (at : ℕ) (h : HeldAt roleSend b at) (clo
           go [] parts leads store = absurd (z leads)
           go (c ∷ left) parts leads store =
               let e : readCell d x ≡ c = ap (readCell d) leads ∙ next-read b y at h clock t (g .sent) c left parts d store in
-              let v : List ℕ = dueOut clock (r .head) (g .sent) in
-              let w : pieceOut clock names (readCell d x) ≡ cond (due clock c) (chunkOut (r .head) c) [] = ap (pieceOut clock names) e ∙ piece-is c in
-              let f : v ++ cond (due clock c) (chunkOut (r .head) c) [] ≡ dueOut clock (r .head) (g .sent ++ (c ∷ [])) = sym (due-more clock (r .head) (g .sent) c) in
+              let v : List ℕ = dueOut clock (r .label) (g .sent) in
+              let w : pieceOut clock names (readCell d x) ≡ cond (due clock c) (chunkOut (r .label) c) [] = ap (pieceOut clock names) e ∙ piece-is c in
+              let f : v ++ cond (due clock c) (chunkOut (r .label) c) [] ≡ dueOut clock (r .label) (g .sent ++ (c ∷ [])) = sym (due-more clock (r .label) (g .sent) c) in
               record {
                 sent = g .sent ++ (c ∷ []);
                 left = left;
@@ -105,9 +105,9 @@ module _ (b : List ℕ) (y : Bytes b) (at : ℕ) (h : HeldAt roleSend b at) (clo
                 turns = omega (arith, g .turns, length-append (g .sent) (c ∷ []));
                 leads = q ∙ ap (λ (p : ℕ). getD d (cellOff p) 0) leads ∙ next-leads b y at h clock t (g .sent) c left parts d store;
                 store = s .store ∙ ap (stampedIn clock d) leads ∙ next-stamped b y at h clock t (g .sent) c left parts d store;
-                ends = s .ends ∙ (λ i. g .ends i + length (w i)) ∙ sym (length-append v (cond (due clock c) (chunkOut (r .head) c) [])) ∙ ap length f;
-                written = more out run run′ 0 pos v (cond (due clock c) (chunkOut (r .head) c) []) (g .written) (s .out ∙ ap (put run pos) w) (omega (arith, g .ends))
-                    (omega (arith, first-room clock r (here-fine roleSend b y at h) (here-sized roleSend b y at h .head) (g .sent) (c ∷ left) parts)) ∙ ap (put out 0) f;
+                ends = s .ends ∙ (λ i. g .ends i + length (w i)) ∙ sym (length-append v (cond (due clock c) (chunkOut (r .label) c) [])) ∙ ap length f;
+                written = more out run run′ 0 pos v (cond (due clock c) (chunkOut (r .label) c) []) (g .written) (s .out ∙ ap (put run pos) w) (omega (arith, g .ends))
+                    (omega (arith, first-room clock r (here-fine roleSend b y at h) (here-sized roleSend b y at h .label) (g .sent) (c ∷ left) parts)) ∙ ap (put out 0) f;
               }
 
     -- ---- none is left
@@ -117,10 +117,10 @@ module _ (b : List ℕ) (y : Bytes b) (at : ℕ) (h : HeldAt roleSend b at) (clo
     none-left e =
         let all : g .sent ≡ r .cells = sym (g .parts ∙ ap (λ (l : List Cell). g .sent ++ l) e ∙ append-nil (g .sent)) in
         record {
-          ends = g .ends ∙ ap (λ (l : List Cell). length (dueOut clock (r .head) l)) all;
+          ends = g .ends ∙ ap (λ (l : List Cell). length (dueOut clock (r .label) l)) all;
           store = g .store ∙ (λ i. encode (partly clock b at (all i) (e i))) ∙ ap (λ (l : List Cell). encode (change (withCells l) (keyIn b at) (decode b))) (append-nil (map (stamped clock) (r .cells)))
               ∙ ap encode (change-is b y at h (withCells (map (stamped clock) (r .cells))) ∙ sym (change-is b y at h (stampedDue clock)));
-          out = g .written ∙ ap (λ (l : List Cell). put out 0 (dueOut clock (r .head) l)) all;
+          out = g .written ∙ ap (λ (l : List Cell). put out 0 (dueOut clock (r .label) l)) all;
         }
 
     pub going-done : x ≡ 0 → Wakes (stampedDue clock) (dueOf clock r) b at out pos d run

@@ -5,7 +5,7 @@ use mathlib.Core.Path.{_≡_, sym, ap, _∙_}
 use mathlib.Core.List.{List}
 use lib.ListN.{length, take, drop, replicate, length-replicate}
 use Rattle.octets.specs.Octets.{part, put}
-use Rattle.octets.specs.Parts.{part-of, length-part, put-whole}
+use Rattle.octets.specs.PartsLaws.{part-of, length-part, put-whole}
 use Rattle.machine.specs.Limits.{recBytes}
 use Rattle.machine.specs.Layout.{recOff}
 use Rattle.outbox.specs.Sending.{namesWidth, namesIn}

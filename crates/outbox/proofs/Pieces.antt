@@ -7,7 +7,7 @@ use mathlib.Core.List.{List}
 use lib.Dec.{eqb, leb}
 use lib.ListN.{length, getD, take, drop}
 use Rattle.octets.specs.Octets.{part, put, num}
-use Rattle.octets.specs.Parts.{part-part, part-of, put-nil}
+use Rattle.octets.specs.PartsLaws.{part-part, part-of, put-nil}
 use Rattle.packet.specs.Outgoing.{entry, chunkPacket}
 use Rattle.machine.specs.Limits.{cellBytes}
 use Rattle.machine.specs.Codes.{pieceSent}
@@ -15,9 +15,9 @@ use Rattle.machine.specs.Layout.{indexAt, stampAt, numberWidth, cellOff, cellOf
 use Rattle.machine.specs.Send.{due}
 use Rattle.packet.specs.Frame.{largestPiece}
 use Rattle.cells.specs.InPlace.{remarked}
-use Rattle.cells.specs.Read.{cell-in, cell-byte, sizeOf, piece-state, piece-bytes, piece-size}
+use Rattle.cells.specs.ReadLaws.{cell-in, cell-byte, sizeOf, piece-state, piece-bytes, piece-size}
 use Rattle.outbox.specs.Sending.{chunkOf, Turn, Sends}
-use Rattle.outbox.specs.Entries.{chunk-length}
+use Rattle.outbox.specs.EntriesLaws.{chunk-length}
 
 -- ---- due
 

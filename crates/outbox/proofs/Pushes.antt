@@ -7,23 +7,25 @@ use mathlib.Core.List.{List, [], _∷_}
 use lib.ListN.{length, getD}
 use lib.Dec.{eqb, leb, ltb}
 use borrow.Author.Tests.{eq-eqb, ne-eqb, le-leb, lt-leb, lt-ltb, le-ltb, leb-true, ltb-true, not-true}
-use Rattle.octets.specs.Octets.{put, pow}
-use Rattle.octets.specs.Bools.{one, cases}
+use Rattle.octets.specs.Octets.{put, capacity}
+use Rattle.octets.specs.Bools.{one}
+use Rattle.octets.specs.BoolsLaws.{cases}
 use Rattle.machine.specs.Limits.{longest, largestTopic, slotsOf}
-use Rattle.machine.specs.Values.{Head, Store}
-use Rattle.machine.specs.Layout.{freeCellsAt, numberWidth, decode}
+use Rattle.machine.specs.Values.{Label, Store}
+use Rattle.machine.specs.Layout.{freeCellsAt, numberLimit, decode}
 use Rattle.machine.specs.Find.{isSome}
 use Rattle.machine.specs.Receive.{found}
 use Rattle.machine.specs.Refusals.{Refusals, refusal}
-use Rattle.machine.specs.Calls.{Push, pushRoom, yes, pushHead, pushTests}
+use Rattle.machine.specs.Codes.{yes}
+use Rattle.machine.specs.Push.{Push, pushRoom, pushLabel, pushTests}
 use Rattle.packet.specs.Outgoing.{entry, initPacket}
-use Rattle.packet.specs.Lengths.{length-entry, length-init}
+use Rattle.packet.specs.LengthsLaws.{length-entry, length-init}
 use Rattle.machine.specs.Send.{initOut}
 use Rattle.steps.specs.Find.{is-none}
 use Rattle.steps.specs.Refusals.{refusal-clear}
 use Rattle.store.specs.HeldAt.{Sends}
-use Rattle.store.specs.Opening.{newHead}
-use Rattle.store.specs.Refuse.{next, stop, clear}
+use Rattle.store.specs.Opening.{newLabel}
+use Rattle.store.specs.RefuseLaws.{next, stop, clear}
 use Rattle.outbox.specs.Pushing.{Pushable, firstPlace}
 
 -- ---- the row, test by test
@@ -43,7 +45,7 @@ module _ (p : Push) (s : Store) (room : ℕ) where
   heldRow = (not (isSome (found (p .id) (s .held))), 22) ∷ freeRow
 
   abbrev clockRow : Refusals
-  clockRow = (ltb (p .created + p .try) (pow numberWidth), 24) ∷ heldRow
+  clockRow = (ltb (p .created + p .try) numberLimit, 24) ∷ heldRow
 
   abbrev longRow : Refusals
   longRow = (leb (length (p .bytes)) longest, 6) ∷ clockRow
@@ -73,13 +75,13 @@ module _ (p : Push) (s : Store) (room : ℕ) where
         at-clock = at-long ∙ next (leb (length (p .bytes)) longest) 6 clockRow (le-leb (length (p .bytes)) longest l)
 
         pub push-clock : 18446744073709551615 - p .try < p .created → p .try ≤ 18446744073709551615 → 24 ≡ row
-        unfolding pow
-        push-clock h m = sym (at-clock ∙ stop (ltb (p .created + p .try) (pow numberWidth)) 24 heldRow (le-ltb (p .created + p .try) (pow numberWidth) (omega arith)))
+        unfolding capacity
+        push-clock h m = sym (at-clock ∙ stop (ltb (p .created + p .try) numberLimit) 24 heldRow (le-ltb (p .created + p .try) numberLimit (omega arith)))
 
         module _ (k : p .created ≤ 18446744073709551615 - p .try) (m : p .try ≤ 18446744073709551615) where
           at-held : row ≡ refusal heldRow
-          unfolding pow
-          at-held = at-clock ∙ next (ltb (p .created + p .try) (pow numberWidth)) 24 heldRow (lt-ltb (p .created + p .try) (pow numberWidth) (omega arith))
+          unfolding capacity
+          at-held = at-clock ∙ next (ltb (p .created + p .try) numberLimit) 24 heldRow (lt-ltb (p .created + p .try) numberLimit (omega arith))
 
           module _ (held : Bool) (h : held ≡ isSome (found (p .id) (s .held))) where
             pub push-held : held ≡ true → 22 ≡ row
@@ -107,8 +109,8 @@ module _ (p : Push) (s : Store) (room : ℕ) where
 module _ (p : Push) (b : List ℕ) (room : ℕ) (z : refusal (pushTests p (decode b) room) ≡ 0) where
   -- its end is a number of 64 bits, and there is room for its init
   pub push-end : p .created + p .try ≤ 18446744073709551615
-  unfolding pow
-  push-end = omega (arith, ltb-true (p .created + p .try) (pow numberWidth) (refusal-clear (pushTests p (decode b) room) refl z .1 .1 .1 .0))
+  unfolding capacity
+  push-end = omega (arith, ltb-true (p .created + p .try) numberLimit (refusal-clear (pushTests p (decode b) room) refl z .1 .1 .1 .0))
 
   pub push-room : (pushRoom ≤ room) × (length (p .topic) ≤ largestTopic)
   push-room =
@@ -116,7 +118,7 @@ module _ (p : Push) (b : List ℕ) (room : ℕ) (z : refusal (pushTests p (decod
       (leb-true pushRoom room (c .0), leb-true (length (p .topic)) largestTopic (c .1 .0))
 
   pub pushable : Sends b → length (p .id) ≡ 8 → length (p .from) ≡ 16 → length (p .to) ≡ 16 → (reply : Bool)
-      → Pushable b (newHead (p .id) (p .from) (p .to) reply (length (p .bytes)) (p .topic)) (p .bytes)
+      → Pushable b (newLabel (p .id) (p .from) (p .to) reply (length (p .bytes)) (p .topic)) (p .bytes)
   pushable t i f o reply =
       let c = refusal-clear (pushTests p (decode b) room) refl z in
       record {
@@ -135,8 +137,8 @@ module _ (p : Push) (b : List ℕ) (room : ℕ) (z : refusal (pushTests p (decod
       }
 
 -- a number of 64 bits fits its field
-pub wide : (n : ℕ) → n ≤ 18446744073709551615 → n < pow numberWidth
-unfolding pow
+pub wide : (n : ℕ) → n ≤ 18446744073709551615 → n < numberLimit
+unfolding capacity
 wide n h = omega arith
 
 -- ---- the init
@@ -145,12 +147,12 @@ mark-back : (x : Bool) → eqb (one x) 1 ≡ x
 mark-back x = cases x (λ e. rw e) (λ e. rw e)
 
 module _ (p : Push) where
-  pub init-put : (run out : List ℕ) → out ≡ put run 0 (entry (p .from) (p .to) (initPacket (p .id) (yes (p .reply)) (length (p .bytes)) (p .topic))) → out ≡ put run 0 (initOut (pushHead p))
+  pub init-put : (run out : List ℕ) → out ≡ put run 0 (entry (p .from) (p .to) (initPacket (p .id) (yes (p .reply)) (length (p .bytes)) (p .topic))) → out ≡ put run 0 (initOut (pushLabel p))
   init-put run out w = w ∙ (λ i. put run 0 (entry (p .from) (p .to) (initPacket (p .id) (sym (mark-back (yes (p .reply))) i) (length (p .bytes)) (p .topic))))
 
-  pub init-long : length (p .id) ≡ 8 → length (p .from) ≡ 16 → length (p .to) ≡ 16 → 34 + 21 + length (p .topic) ≡ length (initOut (pushHead p))
+  pub init-long : length (p .id) ≡ 8 → length (p .from) ≡ 16 → length (p .to) ≡ 16 → 34 + 21 + length (p .topic) ≡ length (initOut (pushLabel p))
   init-long i f o =
-      let h : Head = pushHead p in
+      let h : Label = pushLabel p in
       omega (
         arith,
         length-entry (p .from) (p .to) (initPacket (p .id) (eqb (h .reply) 1) (h .total) (p .topic)) f o,

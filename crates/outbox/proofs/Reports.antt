@@ -9,19 +9,19 @@ use lib.ListN.{length}
 use lib.Dec.{leb}
 use borrow.Author.Tests.{eq-eqb, ne-eqb, le-leb, lt-leb}
 use Rattle.octets.specs.Octets.{put, be}
-use Rattle.octets.specs.Numbers.{length-be}
-use Rattle.octets.specs.Written.{wrote, then}
+use Rattle.octets.specs.NumbersLaws.{length-be}
+use Rattle.octets.specs.WrittenLaws.{wrote, then}
 use Rattle.machine.specs.Codes.{stateInProgress, pieceStarted, pieceSent, pieceAcked}
-use Rattle.machine.specs.Values.{Head, Sending, Rec}
+use Rattle.machine.specs.Values.{Label, Sending, Rec}
 use Rattle.machine.specs.Counting.{occurs}
-use Rattle.machine.specs.Layout.{addressWidth, headOf, sendingOf}
-use Rattle.machine.specs.Sound.{HeadSized}
-use Rattle.machine.specs.Refusals.{refusal}
+use Rattle.machine.specs.Layout.{addressWidth, labelOf, sendingOf}
+use Rattle.machine.specs.Valid.{LabelSized}
+use Rattle.machine.specs.Refusals.{refusal, heldRow}
 use Rattle.machine.specs.Outcomes.{ReportOutcome}
-use Rattle.machine.specs.Calls.{heldRow, reportRoom, counted, reported, reportAt}
+use Rattle.machine.specs.Report.{reportRoom, counted, reported, reportAt}
 use Rattle.store.specs.HeldAt.{rowIn, recIn}
-use Rattle.store.specs.Met.{rec-head, rec-sending}
-use Rattle.store.specs.Refuse.{next, stop, clear}
+use Rattle.store.specs.MetLaws.{rec-label, rec-sending}
+use Rattle.store.specs.RefuseLaws.{next, stop, clear}
 use Rattle.cells.specs.InPlace.{pieceState}
 
 module _ (b : List ℕ) (at : ℕ) where
@@ -43,27 +43,27 @@ module _ (b : List ℕ) (at : ℕ) where
     pub some-counted : (k n : ℕ) → s ≡ stateInProgress → n ≡ occurs k (map pieceState (r .cells)) → n ≡ counted k r
     some-counted k n z e = rw (eq-eqb (r .sending .state) stateInProgress (sym state-is ∙ z)) e
 
-  pub destination-long : HeadSized (r .head) → length (headOf (rowIn b at) .destination) ≡ addressWidth
-  destination-long z = ap (λ (x : Head). length (x .destination)) (sym (rec-head b at)) ∙ z .destination .0
+  pub destination-long : LabelSized (r .label) → length (labelOf (rowIn b at) .destination) ≡ addressWidth
+  destination-long z = ap (λ (x : Label). length (x .destination)) (sym (rec-label b at)) ∙ z .destination .0
 
   -- ---- the writes: m1, m2, .. are the buffer after each
 
-  pub report-is : HeadSized (r .head) → (out m1 m2 m3 m4 l destination : List ℕ) (s n0 n1 n2 created end total : ℕ) → reportRoom ≤ length out
-      → destination ≡ headOf (rowIn b at) .destination → s ≡ sendingOf (rowIn b at) .state → n0 ≡ counted pieceStarted r → n1 ≡ counted pieceSent r → n2 ≡ counted pieceAcked r
-      → created ≡ sendingOf (rowIn b at) .created → end ≡ sendingOf (rowIn b at) .end → total ≡ headOf (rowIn b at) .total
+  pub report-is : LabelSized (r .label) → (out m1 m2 m3 m4 l destination : List ℕ) (s n0 n1 n2 created end total : ℕ) → reportRoom ≤ length out
+      → destination ≡ labelOf (rowIn b at) .destination → s ≡ sendingOf (rowIn b at) .state → n0 ≡ counted pieceStarted r → n1 ≡ counted pieceSent r → n2 ≡ counted pieceAcked r
+      → created ≡ sendingOf (rowIn b at) .created → end ≡ sendingOf (rowIn b at) .end → total ≡ labelOf (rowIn b at) .total
       → m1 ≡ put out 0 destination → m2 ≡ put m1 16 (s ∷ n0 ∷ n1 ∷ n2 ∷ []) → m3 ≡ put m2 20 (be 8 (created / 1000)) → m4 ≡ put m3 28 (be 8 (end / 1000))
       → l ≡ put m4 36 (be 8 total) → l ≡ put out 0 (reported (some r))
   unfolding reported
   report-is z out m1 m2 m3 m4 l destination s n0 n1 n2 created end total h d0 s0 c0 c1 c2 t0 e0 l0 w1 w2 w3 w4 w5 =
-      let head : headOf (rowIn b at) ≡ r .head = sym (rec-head b at) in
-      let d : destination ≡ r .head .destination = d0 ∙ ap (λ (x : Head). x .destination) head in
-      let x1 : m1 ≡ put out 0 (r .head .destination) = w1 ∙ ap (put out 0) d in
+      let head : labelOf (rowIn b at) ≡ r .label = sym (rec-label b at) in
+      let d : destination ≡ r .label .destination = d0 ∙ ap (λ (x : Label). x .destination) head in
+      let x1 : m1 ≡ put out 0 (r .label .destination) = w1 ∙ ap (put out 0) d in
       let x2 : m2 ≡ put m1 16 (r .sending .state ∷ counted pieceStarted r ∷ counted pieceSent r ∷ counted pieceAcked r ∷ []) =
       w2 ∙ (λ i. put m1 16 (state-is s s0 i ∷ c0 i ∷ c1 i ∷ c2 i ∷ [])) in
       let x3 : m3 ≡ put m2 20 (be 8 (r .sending .created / 1000)) = w3 ∙ (λ i. put m2 20 (be 8 ((t0 ∙ ap (λ (x : Sending). x .created) sending) i / 1000))) in
       let x4 : m4 ≡ put m3 28 (be 8 (r .sending .end / 1000)) = w4 ∙ (λ i. put m3 28 (be 8 ((e0 ∙ ap (λ (x : Sending). x .end) sending) i / 1000))) in
-      let x5 : l ≡ put m4 36 (be 8 (r .head .total)) = w5 ∙ (λ i. put m4 36 (be 8 ((l0 ∙ ap (λ (x : Head). x .total) head) i))) in
-      then (be 8 (r .head .total)) 8
+      let x5 : l ≡ put m4 36 (be 8 (r .label .total)) = w5 ∙ (λ i. put m4 36 (be 8 ((l0 ∙ ap (λ (x : Label). x .total) head) i))) in
+      then (be 8 (r .label .total)) 8
       (then (be 8 (r .sending .end / 1000)) 8
       (then (be 8 (r .sending .created / 1000)) 8
       (then (r .sending .state ∷ counted pieceStarted r ∷ counted pieceSent r ∷ counted pieceAcked r ∷ []) 4
@@ -71,7 +71,7 @@ module _ (b : List ℕ) (at : ℕ) where
       x2 refl (omega arith))
       x3 (length-be 8 (r .sending .created / 1000)) (omega arith))
       x4 (length-be 8 (r .sending .end / 1000)) (omega arith))
-      x5 (length-be 8 (r .head .total)) (omega arith) .is
+      x5 (length-be 8 (r .label .total)) (omega arith) .is
 
 -- ---- the ways out
 

@@ -7,7 +7,7 @@ use borrow.Author.Tests.{ne-eqb}
 use Rattle.octets.specs.Octets.{put}
 use Rattle.machine.specs.Values.{Store}
 use Rattle.machine.specs.Layout.{encode}
-use Rattle.machine.specs.Calls.{sendAt}
+use Rattle.machine.specs.Outcomes.{sendAt}
 
 module _ (row : ℕ) (s : Store) (sent b out : List ℕ) where
   -- the answer's number m is n, which the row gives

@@ -13,8 +13,8 @@ use Rattle.machine.specs.Receive.{found}
 use Rattle.machine.specs.Refusals.{Refusals, refusal}
 use Rattle.store.specs.HeldAt.{placeAt, recIn, keyIn, HeldAt, Reached, Sends}
 use Rattle.store.specs.Seek.{seek}
-use Rattle.store.specs.Met.{found-none, found-some, sought-key, sought-held, here-reached}
-use Rattle.store.specs.Refuse.{stop}
+use Rattle.store.specs.MetLaws.{found-none, found-some, sought-key, sought-held, here-reached}
+use Rattle.store.specs.RefuseLaws.{stop}
 
 -- the search was for the key i, which is k
 module _ (b : List ℕ) (y : Bytes b) (t : Sends b) (i k : Key) (at : ℕ) (e : at ≡ seek i b heldAt) (q : i ≡ k) where

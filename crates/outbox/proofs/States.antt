@@ -8,15 +8,14 @@ use lib.ListN.{length}
 use lib.Dec.{eqb, ltb}
 use borrow.Author.Tests.{eq-eqb, ne-eqb, lt-ltb, le-ltb}
 use Rattle.machine.specs.Codes.{stateInProgress}
-use Rattle.machine.specs.Values.{Rec, Store, Key}
+use Rattle.machine.specs.Values.{Rec, Store, Key, Sending}
 use Rattle.machine.specs.Layout.{sendingOf, encode}
 use Rattle.machine.specs.Refusals.{refusal}
 use Rattle.machine.specs.Send.{change, ackPiece}
-use Rattle.machine.specs.Calls.{stateRow, ackChunkRow}
+use Rattle.machine.specs.Packet.{stateRow, ackChunkRow}
 use Rattle.store.specs.HeldAt.{rowIn, recIn}
-use Rattle.store.specs.Met.{rec-sending}
-use Rattle.store.specs.Refuse.{next, stop, clear}
-use Rattle.machine.specs.Values.{Sending}
+use Rattle.store.specs.MetLaws.{rec-sending}
+use Rattle.store.specs.RefuseLaws.{next, stop, clear}
 
 module _ (b : List ℕ) (at : ℕ) (o : Option Rec) (e : o ≡ some (recIn b at)) (s : ℕ) (is : s ≡ sendingOf (rowIn b at) .state) where
   abbrev r : Rec

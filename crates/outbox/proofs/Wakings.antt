@@ -12,12 +12,12 @@ use Rattle.octets.specs.Octets.{put, Bytes}
 use Rattle.machine.specs.Codes.{roleSend}
 use Rattle.machine.specs.Values.{Rec, Store, Key}
 use Rattle.machine.specs.Layout.{encode, decode}
-use Rattle.machine.specs.Refusals.{refusal}
+use Rattle.machine.specs.Refusals.{refusal, heldRow}
 use Rattle.machine.specs.Send.{woken, wakeOut, deadlineOut, change, deadlineAt}
-use Rattle.machine.specs.Calls.{heldRow, sendWake, deadlineWake, wakeRoom, wakeRun, wakeStep}
+use Rattle.machine.specs.Wake.{sendWake, deadlineWake, wakeRoom, wakeRun, wakeStep}
 use Rattle.store.specs.HeldAt.{recIn, keyIn, HeldAt}
-use Rattle.store.specs.Met.{held-here}
-use Rattle.store.specs.Refuse.{next, stop, clear}
+use Rattle.store.specs.MetLaws.{held-here}
+use Rattle.store.specs.RefuseLaws.{next, stop, clear}
 
 -- ---- by kind
 

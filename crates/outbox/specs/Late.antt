@@ -4,12 +4,12 @@ use mathlib.Core.Bool.{cond}
 use mathlib.Core.List.{List, []}
 use Rattle.machine.specs.Values.{Rec}
 use Rattle.machine.specs.Send.{unsettled, abortedOut}
-use Rattle.machine.specs.Calls.{deadlineWake, wakeRoom}
+use Rattle.machine.specs.Wake.{deadlineWake, wakeRoom}
 
--- a run buffer for a deadline wake: document 01, row 2
+-- a run buffer for a deadline wake: row 2
 abbrev pub deadlineRoom : ℕ
 deadlineRoom = wakeRoom deadlineWake
 
 -- the aborted packet of a record in state 0 or 1
 abbrev pub abortedOf : Rec → List ℕ
-abortedOf r = cond (unsettled r) (abortedOut (r .head)) []
+abortedOf r = cond (unsettled r) (abortedOut (r .label)) []

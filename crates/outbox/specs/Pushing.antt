@@ -7,7 +7,7 @@ use mathlib.Core.Option.{none}
 use lib.ListN.{length, getD}
 use lib.Dec.{eqb}
 use Rattle.machine.specs.Limits.{slotsOf}
-use Rattle.machine.specs.Values.{Head, keyOf}
+use Rattle.machine.specs.Values.{Label, keyOf}
 use Rattle.machine.specs.Layout.{freeCellsAt, decode}
 use Rattle.machine.specs.Sound.{sound}
 use Rattle.machine.specs.Receive.{found}
@@ -15,7 +15,7 @@ use Rattle.store.specs.HeldAt.{Sends}
 use Rattle.store.specs.Opening.{FieldsFit}
 
 -- what the row leaves: fields that fit, an id that is not held, and a record and the cells that the pieces need free
-pub record Pushable (b : List ℕ) (h : Head) (bytes : List ℕ) : Type 0 where
+pub record Pushable (b : List ℕ) (h : Label) (bytes : List ℕ) : Type 0 where
   pub sound : Sends b
   pub fits : FieldsFit h
   pub total : h .total ≡ length bytes

@@ -14,6 +14,7 @@ use Rattle.machine.specs.Send.{withCells, change, due, stamped, dueOut}
 use Rattle.links.specs.Links.{Links}
 use Rattle.store.specs.HeldAt.{keyIn}
 use Rattle.cells.specs.InPlace.{remarked}
+use Rattle.machine.specs.Wake.{sendWake, wakeRoom}
 
 -- a record's id, source and destination, as they stand in its row one behind the other
 abbrev pub namesWidth : ℕ
@@ -67,4 +68,8 @@ abbrev pub stampedDue : ℕ → Rec → Rec
 stampedDue clock r = withCells (map (stamped clock) (r .cells)) r
 
 abbrev pub dueOf : ℕ → Rec → List ℕ
-dueOf clock r = dueOut clock (r .head) (r .cells)
+dueOf clock r = dueOut clock (r .label) (r .cells)
+
+-- a run buffer for a send wake: row 2
+abbrev pub sendRoom : ℕ
+sendRoom = wakeRoom sendWake

@@ -13,9 +13,9 @@ ghost use Rattle.machine.specs.Layout.{decode};
 ghost use Rattle.machine.specs.Receive.{found};
 ghost use Rattle.machine.specs.Refusals.{refusal};
 ghost use Rattle.machine.specs.Send.{change, withState, ackPiece};
-ghost use Rattle.machine.specs.Calls.{frameBytes, stateRow, ackChunkRow};
+ghost use Rattle.machine.specs.Packet.{frameBytes, stateRow, ackChunkRow};
 ghost use Rattle.store.specs.HeldAt.{Sends};
-ghost use Rattle.store.specs.Refuse.{stepped};
+ghost use Rattle.store.specs.Step.{stepped};
 
 // Ack init, ack done and read: the number, and the store with the record in its next state.
 pub fn advance(send: &mut [u8], frame: &[u8], state: u8, next: u8) -> u64

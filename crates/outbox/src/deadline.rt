@@ -1,4 +1,4 @@
-// The deadline wake of one record: document 01, "Steps", "Deadline wake (kind 2)". The host fires it; the try duration only enters the report.
+// The deadline wake of one record: PROTOCOL, "The tablet". The host fires it; the try duration only enters the report.
 use packet::header;
 use packet::run;
 use rows::record::IN_PROGRESS;
@@ -14,7 +14,7 @@ ghost use Rattle.machine.specs.Codes.{roleSend};
 ghost use Rattle.machine.specs.Layout.{encode, decode};
 ghost use Rattle.machine.specs.Send.{deadlineOut, deadlineAt};
 ghost use Rattle.store.specs.HeldAt.{recIn, HeldAt};
-ghost use Rattle.outbox.specs.Here.{Here};
+ghost use Rattle.outbox.specs.Leaves.{Here};
 ghost use Rattle.outbox.specs.Late.{deadlineRoom, abortedOf};
 
 // Whether the record has the timed-out mark: a deadline wake was there before.

@@ -9,8 +9,8 @@ ghost use lib.ListN.{length};
 ghost use Rattle.octets.specs.Octets.{put};
 ghost use Rattle.machine.specs.Send.{allAcked, doneOut};
 ghost use Rattle.store.specs.HeldAt.{recIn};
-ghost use Rattle.outbox.specs.Here.{Here};
-ghost use Rattle.outbox.specs.Room.{sendRoom};
+ghost use Rattle.outbox.specs.Leaves.{Here};
+ghost use Rattle.outbox.specs.Sending.{sendRoom};
 
 // Whether every piece of the record that the link at byte `link` leads to is acknowledged: as many as it has slots.
 pub fn all_acked(store: &[u8], link: usize) -> bool

@@ -9,8 +9,7 @@ ghost use Prim.Native.Nat.{_≤_};
 ghost use lib.ListN.{length};
 ghost use Rattle.machine.specs.Codes.{roleSend};
 ghost use Rattle.store.specs.HeldAt.{placeAt, recIn, HeldAt};
-ghost use Rattle.outbox.specs.Room.{sendRoom};
-ghost use Rattle.outbox.specs.Sending.{namesIn, Wakes, stampedDue, dueOf};
+ghost use Rattle.outbox.specs.Sending.{sendRoom, namesIn, Wakes, stampedDue, dueOf};
 
 // The due pieces of the record that the link at byte `link` leads to, as chunks at the start of the run, each one stamped; answers where they end.
 pub fn send_due(store: &mut [u8], link: usize, names: &[u8], clock: u64, out: &mut [u8]) -> usize

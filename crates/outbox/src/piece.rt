@@ -18,22 +18,23 @@ ghost use Prim.Native.Nat.{_+_};
 ghost use lib.Dec.{leb};
 ghost use lib.ListN.{length};
 ghost use Rattle.octets.specs.Octets.{put};
+ghost use Rattle.machine.specs.Limits.{resendAfter};
 ghost use Rattle.machine.specs.Layout.{readCell};
 ghost use Rattle.machine.specs.Send.{due};
 ghost use Rattle.cells.specs.InPlace.{CellIn};
 ghost use Rattle.outbox.specs.Sending.{chunkOf, Turn, Sends};
 
 // A piece is sent again after so many milliseconds.
-const AGAIN_AFTER: u64 = 100;
+const RESEND_AFTER: u64 = 100;
 
 // Whether that time has passed since the stamp; a clock gone back means no.
 fn passed(stamp: u64, clock: u64) -> bool
-    ensures { λ r. ⌜ r ≡ leb (stamp + 100) clock ⌝ }
+    ensures { λ r. ⌜ r ≡ leb (stamp + resendAfter) clock ⌝ }
 {
     if clock < stamp {
         return false;
     }
-    AGAIN_AFTER <= clock - stamp
+    RESEND_AFTER <= clock - stamp
 }
 
 // Whether the piece in a cell is due.

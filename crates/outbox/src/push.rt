@@ -15,9 +15,10 @@ ghost use Rattle.machine.specs.Limits.{longest, slotsOf};
 ghost use Rattle.machine.specs.Layout.{encode, decode};
 ghost use Rattle.machine.specs.Refusals.{refusal};
 ghost use Rattle.machine.specs.Send.{pushStep, initOut};
-ghost use Rattle.machine.specs.Calls.{pushHead, sendAt, pushed, pushTests};
+ghost use Rattle.machine.specs.Outcomes.{sendAt};
+ghost use Rattle.machine.specs.Push.{pushLabel, pushed, pushTests};
 ghost use Rattle.store.specs.HeldAt.{Sends};
-ghost use Rattle.store.specs.Opening.{newHead};
+ghost use Rattle.store.specs.Opening.{newLabel};
 ghost use Rattle.outbox.specs.Pushing.{Pushable, firstPlace};
 
 // The most bytes of a topic.
@@ -97,8 +98,8 @@ fn hold(
     created: u64,
     end: u64,
 )
-    requires { ⌜ Pushable (now send) (newHead (now id) (now from) (now to) reply (length (now bytes)) (now topic)) (now bytes) ⌝ }
-    ensures { λ _. ⌜ now (send .exit) ≡ encode (pushStep (newHead (now (id .entry)) (now (from .entry)) (now (to .entry)) reply (length (now (bytes .entry))) (now (topic .entry))) created end (now (bytes .entry)) (decode (now (send .entry)))) ⌝ }
+    requires { ⌜ Pushable (now send) (newLabel (now id) (now from) (now to) reply (length (now bytes)) (now topic)) (now bytes) ⌝ }
+    ensures { λ _. ⌜ now (send .exit) ≡ encode (pushStep (newLabel (now (id .entry)) (now (from .entry)) (now (to .entry)) reply (length (now (bytes .entry))) (now (topic .entry))) created end (now (bytes .entry)) (decode (now (send .entry)))) ⌝ }
 {
     let cell = first_place(send, bytes.len());
     cells::cut::cut(send, bytes);
@@ -130,7 +131,7 @@ pub fn push(
     run: &mut [u8],
 ) -> Answer
     requires { ⌜ Sends (now send) × (length (now id) ≡ 8) × (length (now from) ≡ 16) × (length (now to) ≡ 16) ⌝ }
-    ensures { λ r. ⌜ record { number = r .number; run = r .run; wake = r .wake; send = now (send .exit); out = now (run .exit) } ≡ sendAt (refusal (pushTests (pushed (now (id .entry)) reply (now (from .entry)) (now (to .entry)) (now (topic .entry)) (now (bytes .entry)) created «try_ms») (decode (now (send .entry))) (length (now (run .entry))))) (pushStep (pushHead (pushed (now (id .entry)) reply (now (from .entry)) (now (to .entry)) (now (topic .entry)) (now (bytes .entry)) created «try_ms»)) created (created + «try_ms») (now (bytes .entry)) (decode (now (send .entry)))) (initOut (pushHead (pushed (now (id .entry)) reply (now (from .entry)) (now (to .entry)) (now (topic .entry)) (now (bytes .entry)) created «try_ms»))) (now (send .entry)) (now (run .entry)) ⌝ }
+    ensures { λ r. ⌜ record { number = r .number; run = r .run; wake = r .wake; send = now (send .exit); out = now (run .exit) } ≡ sendAt (refusal (pushTests (pushed (now (id .entry)) reply (now (from .entry)) (now (to .entry)) (now (topic .entry)) (now (bytes .entry)) created «try_ms») (decode (now (send .entry))) (length (now (run .entry))))) (pushStep (pushLabel (pushed (now (id .entry)) reply (now (from .entry)) (now (to .entry)) (now (topic .entry)) (now (bytes .entry)) created «try_ms»)) created (created + «try_ms») (now (bytes .entry)) (decode (now (send .entry)))) (initOut (pushLabel (pushed (now (id .entry)) reply (now (from .entry)) (now (to .entry)) (now (topic .entry)) (now (bytes .entry)) created «try_ms»))) (now (send .entry)) (now (run .entry)) ⌝ }
 {
     let number = refusal(send, id, topic, bytes, created, try_ms, run.len());
     if number != answer::DONE {

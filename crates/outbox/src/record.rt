@@ -4,7 +4,7 @@ use rows::record::Record;
 ghost use mathlib.Core.Path.{_≡_};
 ghost use Prim.Native.Nat.{_+_};
 ghost use Rattle.store.specs.HeldAt.{placeAt};
-ghost use Rattle.outbox.specs.Here.{Here};
+ghost use Rattle.outbox.specs.Leaves.{Here};
 ghost use Rattle.outbox.specs.Sending.{namesIn};
 
 // Its id, its source and its destination stand one behind the other: places among them, and the bytes of all three.

@@ -18,8 +18,8 @@ ghost use Rattle.octets.specs.Octets.{put};
 ghost use Rattle.machine.specs.Codes.{roleSend};
 ghost use Rattle.machine.specs.Layout.{decode};
 ghost use Rattle.machine.specs.Receive.{found};
-ghost use Rattle.machine.specs.Refusals.{refusal};
-ghost use Rattle.machine.specs.Calls.{heldRow, reportRoom, counted, reported, reportAt};
+ghost use Rattle.machine.specs.Refusals.{refusal, heldRow};
+ghost use Rattle.machine.specs.Report.{reportRoom, counted, reported, reportAt};
 ghost use Rattle.store.specs.HeldAt.{recIn, HeldAt, Sends};
 
 // Where each part of a report stands behind the destination, and how long it is.

@@ -1,4 +1,4 @@
-// The wakes: document 01, "Steps", "Send wake (kind 1)" and "Deadline wake (kind 2)".
+// The wakes: PROTOCOL, "The tablet".
 use crate::deadline::deadline_wake;
 use crate::done::all_acked;
 use crate::done::send_done;
@@ -22,12 +22,12 @@ ghost use Rattle.octets.specs.Octets.{put};
 ghost use Rattle.machine.specs.Codes.{roleSend};
 ghost use Rattle.machine.specs.Layout.{encode, decode};
 ghost use Rattle.machine.specs.Receive.{found};
-ghost use Rattle.machine.specs.Refusals.{refusal};
+ghost use Rattle.machine.specs.Refusals.{refusal, heldRow};
 ghost use Rattle.machine.specs.Send.{change, progressOut, wakeOut, woken};
-ghost use Rattle.machine.specs.Calls.{heldRow, sendAt, sendWake, deadlineWake, wakeRoom, wakeRun, wakeStep};
+ghost use Rattle.machine.specs.Outcomes.{sendAt};
+ghost use Rattle.machine.specs.Wake.{sendWake, deadlineWake, wakeRoom, wakeRun, wakeStep};
 ghost use Rattle.store.specs.HeldAt.{recIn, keyIn, HeldAt, Sends};
-ghost use Rattle.outbox.specs.Room.{sendRoom};
-ghost use Rattle.outbox.specs.Sending.{Wakes, stampedDue};
+ghost use Rattle.outbox.specs.Sending.{sendRoom, Wakes, stampedDue};
 
 // The kinds of a wake.
 const SEND: u64 = 1;

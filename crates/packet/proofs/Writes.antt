@@ -8,12 +8,13 @@ use mathlib.Core.List.{List, [], _∷_, _++_}
 use lib.ListN.{length, length-append}
 use lib.Bits.{bitOr}
 use Rattle.octets.specs.Octets.{part, put, be}
-use Rattle.octets.specs.Parts.{length-part}
-use Rattle.octets.specs.Numbers.{length-be}
-use Rattle.octets.specs.Written.{wrote, then}
+use Rattle.octets.specs.PartsLaws.{length-part}
+use Rattle.octets.specs.NumbersLaws.{length-be}
+use Rattle.octets.specs.WrittenLaws.{wrote, then}
 use Rattle.packet.specs.Frame.{flagsOf, initFlag, replyFlag, chunkFlag, doneFlag, ackFlag}
-use Rattle.packet.specs.Outgoing.{entry, header, initPacket, chunkPacket, donePacket, replyPacket, Room}
-use Rattle.packet.specs.Lengths.{length-header}
+use Rattle.packet.specs.Outgoing.{entry, header, initPacket, chunkPacket, donePacket, replyPacket}
+use Rattle.packet.specs.Room.{Room}
+use Rattle.packet.specs.LengthsLaws.{length-header}
 
 module _ (run : List ℕ) (a : ℕ) where
   pub header-is : (r1 l id : List ℕ) (flags : ℕ) → length id ≡ 8 → a + 12 ≤ length run

@@ -1,4 +1,4 @@
--- A frame's fields, and the kind that its flag byte decides: document 01, "Packets", and the first lines of "Steps".
+-- A frame's fields, and the kind that its flag byte decides: PROTOCOL, "Packets".
 use Prim.Native.Nat.{ℕ, min}
 use mathlib.Core.Bool.{Bool, not, cond}
 use mathlib.Core.List.{List}

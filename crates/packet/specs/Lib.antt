@@ -1,3 +1,4 @@
 pub mod Frame
 pub mod Outgoing
-pub mod Lengths
+pub mod Room
+pub mod LengthsLaws

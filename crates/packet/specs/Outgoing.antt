@@ -1,6 +1,5 @@
--- Packets that are put out, and the run that carries them: document 01, "Answers by number" (run), "Packets" and the replies of "Steps".
-use Prim.Native.Nat.{ℕ, _+_, _-_, _≤_}
-use mathlib.Core.Path.{_≡_}
+-- Packets that are put out, and the run that carries them: PROTOCOL, "Calls and answers", "Packets", and the replies of "The office".
+use Prim.Native.Nat.{ℕ, _+_, _-_}
 use mathlib.Core.Bool.{Bool, cond}
 use mathlib.Core.List.{List, [], _∷_, _++_}
 use lib.ListN.{length}
@@ -48,9 +47,3 @@ chunkReply = 36
 
 abbrev pub doneReply : ℕ
 doneReply = 52
-
--- what a writer asks: addresses of 16 bytes, and room for a packet of n bytes behind its count and addresses
-pub record Room (run : List ℕ) (at : ℕ) (from to : List ℕ) (n : ℕ) : Type 0 where
-  pub source : length from ≡ 16
-  pub target : length to ≡ 16
-  pub fits : at + 34 + n ≤ length run

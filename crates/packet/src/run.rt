@@ -9,7 +9,8 @@ ghost use mathlib.Core.List.{_++_};
 ghost use Prim.Native.Nat.{_+_, _<_, _≤_};
 ghost use lib.ListN.{length};
 ghost use Rattle.octets.specs.Octets.{put, be};
-ghost use Rattle.packet.specs.Outgoing.{entry, Room, initPacket, chunkPacket, donePacket, header, replyPacket};
+ghost use Rattle.packet.specs.Outgoing.{entry, initPacket, chunkPacket, donePacket, header, replyPacket};
+ghost use Rattle.packet.specs.Room.{Room};
 
 // Places in an entry.
 pub const FROM: usize = 2;

@@ -6,9 +6,9 @@ use mathlib.Core.List.{List, [], _∷_}
 use lib.ListN.{getD}
 use lib.Dec.{leb}
 use Rattle.machine.specs.Limits.{longest, recBytes, cellBytes, slotsOf, mostSlots}
-use Rattle.machine.specs.Values.{Head, Sending}
+use Rattle.machine.specs.Values.{Label, Sending}
 use Rattle.machine.specs.Tests.{every}
-use Rattle.machine.specs.Layout.{slotsAt, cellOf, headOf, sendingOf, decode}
+use Rattle.machine.specs.Layout.{slotsAt, cellOf, labelOf, sendingOf, decode}
 use Rattle.machine.specs.Sound.{isMark, sendingFits, cellFits, headTests, recShape, cellShape, freeShape}
 use Rattle.rows.specs.declared.Holds.{Holds}
 use Rattle.rows.specs.declared.Holds.the-variants.{Free, Record, Piece}
@@ -18,13 +18,13 @@ unfoldable pub headFits : ℕ → List ℕ → Bool
 headFits role b = every (headTests role b (decode b))
 
 -- fields in range: the reply mark; length to 32,500; the sender's; slots in the range of the length
-abbrev pub ownTests : ℕ → Head → ℕ → Sending → List Bool
+abbrev pub ownTests : ℕ → Label → ℕ → Sending → List Bool
 ownTests role h slots x =
     isMark (h .reply) ∷ leb (h .total) longest ∷ sendingFits role x ∷ leb (slotsOf (h .total)) slots ∷ leb slots (mostSlots (h .total)) ∷ []
 
 -- a record's row, all but its pieces
 unfoldable pub recordFits : ℕ → ℕ → List ℕ → Bool
-recordFits role kind row = recShape kind row && every (ownTests role (headOf row) (getD row slotsAt 0) (sendingOf row))
+recordFits role kind row = recShape kind row && every (ownTests role (labelOf row) (getD row slotsAt 0) (sendingOf row))
 
 -- a piece's row, all but its index
 unfoldable pub pieceFits : ℕ → List ℕ → Bool

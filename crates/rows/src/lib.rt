@@ -1,4 +1,4 @@
-// The rows of a store: where each field stands, and what document 01's "Sound" asks of one row by itself. The chains of rows are
+// The rows of a store: where each field stands, and what PROTOCOL's "Stores" asks of one row by itself. The chains of rows are
 // walked in the crate soundness.
 
 pub mod cell;

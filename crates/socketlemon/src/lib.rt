@@ -4,7 +4,12 @@
 use answer::Answer;
 ghost use mathlib.Core.Path.{_≡_};
 ghost use Rattle.address.specs.Address.{addressOf};
-ghost use Rattle.machine.specs.Calls.{setupOf, packetOf, pushOf, wakeOf, reportOf, takeOf};
+ghost use Rattle.machine.specs.Setup.{setupOf};
+ghost use Rattle.machine.specs.Packet.{packetOf};
+ghost use Rattle.machine.specs.Push.{pushOf};
+ghost use Rattle.machine.specs.Wake.{wakeOf};
+ghost use Rattle.machine.specs.Report.{reportOf};
+ghost use Rattle.machine.specs.Take.{takeOf};
 
 // Makes the store fresh, in a role: 1 to receive, 2 to send.
 #[no_mangle]

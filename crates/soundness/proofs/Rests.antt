@@ -9,14 +9,14 @@ use mathlib.Core.List.{List, [], _∷_, map}
 use lib.ListN.{length, getD, take, drop}
 use lib.Dec.{eqb, leb}
 use borrow.Author.Tests.{le-leb, lt-leb, lt-ltb, le-ltb, leb-true}
-use Rattle.octets.specs.Bools.{split}
+use Rattle.octets.specs.BoolsLaws.{split}
 use Rattle.octets.specs.Lists.{all}
-use Rattle.octets.specs.Parts.{length-part, part-of, part-part}
+use Rattle.octets.specs.PartsLaws.{length-part, part-of, part-part}
 use Rattle.machine.specs.Limits.{recBytes, cellBytes, cutBy}
 use Rattle.machine.specs.Values.{Cell, sameKey}
 use Rattle.machine.specs.Counting.{inside}
-use Rattle.machine.specs.Chains.{link, walk}
-use Rattle.machine.specs.Layout.{idAt, idWidth, nextAt, indexAt, sizeAt, bytesAt, sizeWidth, recOff, cellOff, firstCellAt, slotsAt, totalAt, numberWidth, recAt, cellAt, numAt, cellOf, readCell, readCells, cellChain}
+use Rattle.machine.specs.Chains.{link, walk, nextAt}
+use Rattle.machine.specs.Layout.{idAt, idWidth, indexAt, sizeAt, bytesAt, sizeWidth, recOff, cellOff, firstCellAt, slotsAt, totalAt, numberWidth, recAt, cellAt, numAt, cellOf, readCell, readCells, cellChain}
 use Rattle.machine.specs.Sound.{rising, sizes, isCut}
 use Rattle.octets.specs.Octets.{part}
 use Rattle.packet.specs.Frame.{largestPiece}

@@ -11,9 +11,9 @@ use lib.ListN.{length}
 use lib.Dec.{eqb, ltb}
 use borrow.Author.Tests.{eq-eqb, ne-eqb, eqb-true, lt-ltb}
 use Rattle.octets.specs.Octets.{put}
-use Rattle.octets.specs.Bools.{cases, split}
-use Rattle.octets.specs.Parts.{more, put-nil, put-whole}
-use Rattle.octets.specs.Written.{wrote, then}
+use Rattle.octets.specs.BoolsLaws.{cases, split}
+use Rattle.octets.specs.PartsLaws.{more, put-nil, put-whole}
+use Rattle.octets.specs.WrittenLaws.{wrote, then}
 use Rattle.machine.specs.Limits.{headBytes, recCount, recBytes, cellBytes, mostCells, storeBytes}
 use Rattle.machine.specs.Codes.{roleReceive, roleSend, isRole}
 use Rattle.machine.specs.Rows.{rowAt, table}
@@ -21,7 +21,7 @@ use Rattle.machine.specs.Chains.{first, chainRows}
 use Rattle.machine.specs.Counting.{inside, rise}
 use Rattle.machine.specs.Layout.{freePlace, freeRow, recRows, cellRows, encode}
 use Rattle.machine.specs.Sound.{fresh, room, setupCells}
-use Rattle.machine.specs.Calls.{setupOf}
+use Rattle.machine.specs.Setup.{setupOf}
 use Rattle.laws.specs.Fresh.{setup-length}
 use Rattle.laws.specs.Counting.{inside-is, is-inside}
 use Rattle.laws.specs.Rows.{table-same, table-length}

@@ -9,9 +9,9 @@ use mathlib.Core.List.{List, [], _∷_}
 use lib.ListN.{length, getD}
 use lib.Dec.{eqb}
 use borrow.Author.Tests.{eq-eqb, ne-eqb}
-use Rattle.octets.specs.Bools.{split}
+use Rattle.octets.specs.BoolsLaws.{split}
 use Rattle.octets.specs.Lists.{all}
-use Rattle.octets.specs.Parts.{length-part}
+use Rattle.octets.specs.PartsLaws.{length-part}
 use Rattle.machine.specs.Limits.{recCount, recBytes, cellBytes}
 use Rattle.machine.specs.Codes.{heldKind, kindWhole}
 use Rattle.machine.specs.Layout.{freeAt, heldAt, wholeAt, freeCellsAt, recAt, cellAt, recChain, cellChain}

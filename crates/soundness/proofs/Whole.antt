@@ -7,18 +7,19 @@ use mathlib.Core.List.{List, [], _∷_, _++_, map}
 use lib.ListN.{length, getD, replicate}
 use lib.Dec.{eqb, leb}
 use borrow.Author.Tests.{eqb-true}
-use Rattle.octets.specs.Bools.{cases, clash, split, both, iff}
-use Rattle.octets.specs.Lists.{all, all-true, true-all, all-to, all-zip, all-map, map-all}
+use Rattle.octets.specs.BoolsLaws.{cases, clash, split, both, iff}
+use Rattle.octets.specs.Lists.{all}
+use Rattle.octets.specs.ListsLaws.{all-true, true-all, all-to, all-zip, all-map, map-all, _&_}
 use Rattle.machine.specs.Limits.{recCount, recBytes, cellBytes, mostCells, storeBytes}
 use Rattle.machine.specs.Codes.{roleReceive, heldKind, kindArriving, kindWhole, kindLeaving}
 use Rattle.machine.specs.Values.{Rec, keyOf, sameKey}
 use Rattle.machine.specs.Tests.{every}
 use Rattle.machine.specs.Chains.{walk}
 use Rattle.machine.specs.Counting.{inside, each, once}
-use Rattle.machine.specs.Layout.{freeAt, heldAt, wholeAt, freeCellsAt, countAt, slotsAt, sizeAt, sizeWidth, cellPlace, recPlace, recRow, cellRow, recAt, cellAt, numAt, cellOf, recOf, headOf, sendingOf, recChain, cellChain, readCell, readCells, readRec, decode}
+use Rattle.machine.specs.Layout.{freeAt, heldAt, wholeAt, freeCellsAt, countAt, slotsAt, sizeAt, sizeWidth, cellPlace, recPlace, recRow, cellRow, recAt, cellAt, numAt, cellOf, recOf, labelOf, sendingOf, recChain, cellChain, readCell, readCells, readRec, decode}
 use Rattle.machine.specs.Sound.{headTests, cellFits, recTests, recFits, noRec, distinct, recPlaces, piecePlaces, recShape, cellTests, cellShape, freeShape, shapeTests, soundTests, sound, rising}
 use Rattle.packet.specs.Frame.{largestPiece}
-use Rattle.laws.specs.Tests.{_&_, every-true, true-every, all-parts, all-append}
+use Rattle.laws.specs.Tests.{every-true, true-every, all-parts, all-append}
 use Rattle.laws.specs.Counting.{inside-is}
 use Rattle.laws.specs.Chains.{map-place}
 use Rattle.laws.specs.Marks.{three-is}
@@ -59,7 +60,7 @@ module _ (b : List ℕ) where
 
   module _ (role kind p : ℕ) where
     abbrev own : List Bool
-    own = ownTests role (headOf (recAt b p)) (getD (recAt b p) slotsAt 0) (sendingOf (recAt b p))
+    own = ownTests role (labelOf (recAt b p)) (getD (recAt b p) slotsAt 0) (sendingOf (recAt b p))
 
     asked-checked : Asked role kind p → Checked role kind p
     unfolding recFits recOf cellOf recordFits pieceFits recordPieces piecesFit
@@ -164,9 +165,9 @@ module _ (b : List ℕ) where
   all-of-two f [] m = refl
   all-of-two f (r ∷ l) m = ap (λ (x : Bool). f r && x) (all-of-two f l m) ∙ sym (and-assoc (f r) (all f l) (all f m))
 
-  unlike-is : (p : ℕ) (ps : List ℕ) → all (λ (q : Rec). not (sameKey (keyOf (readRec b p .head)) (keyOf (q .head)))) (recsAt ps) ≡ all (unlike b p) ps
+  unlike-is : (p : ℕ) (ps : List ℕ) → all (λ (q : Rec). not (sameKey (keyOf (readRec b p .label)) (keyOf (q .label)))) (recsAt ps) ≡ all (unlike b p) ps
   unfolding recOf
-  unlike-is p ps = all-of-map (λ (q : Rec). not (sameKey (keyOf (readRec b p .head)) (keyOf (q .head)))) ps
+  unlike-is p ps = all-of-map (λ (q : Rec). not (sameKey (keyOf (readRec b p .label)) (keyOf (q .label)))) ps
 
   distinct-one : (m : List ℕ) → distinct (recsAt m) ≡ apart m []
   unfolding distinct apart
@@ -177,7 +178,7 @@ module _ (b : List ℕ) where
   unfolding distinct apart
   distinct-two [] m = distinct-one m
   distinct-two (p ∷ l) m =
-      (λ i. (all-of-two (λ (q : Rec). not (sameKey (keyOf (readRec b p .head)) (keyOf (q .head)))) (recsAt l) (recsAt m) ∙ (λ j. unlike-is p l j && unlike-is p m j)) i
+      (λ i. (all-of-two (λ (q : Rec). not (sameKey (keyOf (readRec b p .label)) (keyOf (q .label)))) (recsAt l) (recsAt m) ∙ (λ j. unlike-is p l j && unlike-is p m j)) i
       && distinct-two l m i)
       ∙ sym (and-assoc (all (unlike b p) l && all (unlike b p) m) (apart l m) (apart m []))
 

@@ -14,7 +14,7 @@ use Rattle.machine.specs.Values.{Cell, Key, keyOf, sameKey}
 use Rattle.machine.specs.Rows.{rowOff}
 use Rattle.machine.specs.Chains.{link, walk}
 use Rattle.machine.specs.Counting.{inside}
-use Rattle.machine.specs.Layout.{freeAt, heldAt, wholeAt, freeCellsAt, firstCellAt, slotsAt, totalAt, sizeAt, sizeWidth, numberWidth, recAt, cellAt, numAt, headOf, recChain, cellChain, readCells}
+use Rattle.machine.specs.Layout.{freeAt, heldAt, wholeAt, freeCellsAt, firstCellAt, slotsAt, totalAt, sizeAt, sizeWidth, numberWidth, recAt, cellAt, numAt, labelOf, recChain, cellChain, readCells}
 use Rattle.machine.specs.Sound.{rising, sizes, isCut}
 use Rattle.packet.specs.Frame.{largestPiece}
 use Rattle.laws.specs.Marks.{Walked, scan, three}
@@ -104,7 +104,7 @@ recordPieces kind b p = piecesFit kind (getD (recAt b p) slotsAt 0) (numAt numbe
 -- ---- keys
 
 abbrev pub keyAt : List ℕ → ℕ → Key
-keyAt b p = keyOf (headOf (recAt b p))
+keyAt b p = keyOf (labelOf (recAt b p))
 
 abbrev pub unlike : List ℕ → ℕ → ℕ → Bool
 unlike b p q = not (sameKey (keyAt b p) (keyAt b q))

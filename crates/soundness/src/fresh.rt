@@ -9,7 +9,7 @@ ghost use Rattle.machine.specs.Limits.{mostCells, storeBytes};
 ghost use Rattle.machine.specs.Codes.{isRole};
 ghost use Rattle.machine.specs.Layout.{freeRow, encode};
 ghost use Rattle.machine.specs.Sound.{fresh, setupCells};
-ghost use Rattle.machine.specs.Calls.{setupOf};
+ghost use Rattle.machine.specs.Setup.{setupOf};
 ghost use Rattle.soundness.specs.Rising.{freeLink, freeTable};
 
 // How many cells a store of n bytes has, 0 where no store is so long.

@@ -9,7 +9,7 @@ use mathlib.Core.Option.{Option, none, some}
 use lib.ListN.{length, length-append}
 use lib.Dec.{eqb}
 use borrow.Author.Tests.{eqb-true, eqb-false, ne-eqb}
-use Rattle.octets.specs.Bools.{cases, clash}
+use Rattle.octets.specs.BoolsLaws.{cases, clash}
 use Rattle.machine.specs.Values.{Cell}
 use Rattle.machine.specs.Sound.{rising, sizes}
 use Rattle.machine.specs.Find.{find, isSome}

@@ -7,12 +7,12 @@ use mathlib.Core.Option.{none, some}
 use lib.ListN.{length}
 use lib.Dec.{eqb}
 use Rattle.octets.specs.Bools.{one}
-use Rattle.octets.specs.Lists.{all-join}
+use Rattle.octets.specs.ListsLaws.{all-join}
 use Rattle.machine.specs.Codes.{heldKind}
 use Rattle.machine.specs.Values.{Rec, Store, sameKey}
 use Rattle.machine.specs.Chains.{first}
 use Rattle.machine.specs.Counting.{occurs}
-use Rattle.machine.specs.Sound.{RecSized, Valid}
+use Rattle.machine.specs.Valid.{RecSized, Valid}
 use Rattle.machine.specs.Find.{swap}
 use Rattle.machine.specs.Pieces.{rest}
 use Rattle.machine.specs.Receive.{recKey, found, replaced}

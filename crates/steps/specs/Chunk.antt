@@ -6,18 +6,19 @@ use mathlib.Core.Bool.{true}
 use mathlib.Core.List.{List}
 use mathlib.Core.Option.{some}
 use lib.ListN.{length}
-use Rattle.octets.specs.Octets.{pow}
-use Rattle.octets.specs.Bools.{cases}
+use Rattle.octets.specs.Octets.{capacity}
+use Rattle.octets.specs.BoolsLaws.{cases}
 use Rattle.machine.specs.Limits.{topOf}
 use Rattle.machine.specs.Codes.{roleReceive, kindArriving}
 use Rattle.machine.specs.Values.{Cell, Rec, Store, Key}
 use Rattle.machine.specs.Chains.{first}
 use Rattle.machine.specs.Counting.{occurs}
-use Rattle.machine.specs.Sound.{rising, cellFits, AtMost, CellSized, RecSized, Valid}
+use Rattle.machine.specs.Sound.{rising, cellFits}
+use Rattle.machine.specs.Valid.{AtMost, CellSized, RecSized, Valid}
 use Rattle.machine.specs.Find.{isSome}
 use Rattle.machine.specs.Pieces.{pieceAt}
 use Rattle.machine.specs.Receive.{found, withPiece, cellsLeft, chunkAt}
-use Rattle.machine.specs.Calls.{cellsNeeded}
+use Rattle.machine.specs.Packet.{cellsNeeded}
 use Rattle.packet.specs.Frame.{largestPiece}
 use Rattle.laws.specs.Fine.{Fine, fine-fits}
 use Rattle.steps.specs.Find.{is-none}
@@ -27,7 +28,7 @@ use Rattle.steps.specs.Change.{change-valid}
 use Rattle.steps.specs.Held.{held-own, held-fine, held-sized}
 
 -- a piece at an index to top: its record is as fine as before
-piece-fine : (place index : ℕ) (bytes : List ℕ) (r : Rec) → index ≤ topOf (r .head .total) → Fine roleReceive kindArriving r
+piece-fine : (place index : ℕ) (bytes : List ℕ) (r : Rec) → index ≤ topOf (r .label .total) → Fine roleReceive kindArriving r
     → Fine roleReceive kindArriving (withPiece place index bytes r)
 piece-fine place index bytes r h f =
     let high : ℕ = max (r .slots) (suc index) in
@@ -45,9 +46,9 @@ piece-fine place index bytes r h f =
     }
 
 piece-sized : (place index : ℕ) (bytes : List ℕ) (r : Rec) → AtMost largestPiece bytes → RecSized r → RecSized (withPiece place index bytes r)
-unfolding pow
+unfolding capacity
 piece-sized place index bytes r b z = record {
-  head = z .head;
+  label = z .label;
   created = z .created;
   end = z .end;
   cells = all-put place index bytes CellSized (r .cells) (λ p. record { bytes = b; stamp = omega arith }) (z .cells);
@@ -62,7 +63,7 @@ piece-cells k index bytes l r f n =
     (λ e. let m : 1 ≤ length l = rw e at n in
     rw e (omega (arith, occurs-rest k l m, occurs-put-new (first l) index bytes k (r .cells) (is-none (pieceAt index (r .cells)) e))))
 
-pub chunk-valid : (k : Key) (index : ℕ) (bytes : List ℕ) (r : Rec) (s : Store) → found k (s .held) ≡ some r → index ≤ topOf (r .head .total)
+pub chunk-valid : (k : Key) (index : ℕ) (bytes : List ℕ) (r : Rec) (s : Store) → found k (s .held) ≡ some r → index ≤ topOf (r .label .total)
     → cellsNeeded index r ≤ length (s .freeCells) → AtMost largestPiece bytes → Valid roleReceive s → Valid roleReceive (chunkAt (some r) index bytes s)
 unfolding chunkAt
 chunk-valid k index bytes r s e h n b v =

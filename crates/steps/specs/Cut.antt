@@ -10,15 +10,16 @@ use lib.Seq.{getD-drop}
 use lib.Dec.{eqb, leb, ltb}
 use borrow.Author.Tests.{eq-eqb, lt-ltb, leb-true, leb-false}
 use Rattle.octets.specs.Octets.{part, Bytes}
-use Rattle.octets.specs.Bools.{cases, both}
+use Rattle.octets.specs.BoolsLaws.{cases, both}
 use Rattle.octets.specs.Lists.{All}
-use Rattle.octets.specs.Parts.{bytes-part}
+use Rattle.octets.specs.PartsLaws.{bytes-part}
 use Rattle.machine.specs.Limits.{cutBy, slotsOf}
 use Rattle.machine.specs.Values.{Cell}
 use Rattle.machine.specs.Chains.{first}
 use Rattle.machine.specs.Counting.{occurs}
 use Rattle.machine.specs.Layout.{cellPlace}
-use Rattle.machine.specs.Sound.{rising, sizes, isCut, AtMost}
+use Rattle.machine.specs.Sound.{rising, sizes, isCut}
+use Rattle.machine.specs.Valid.{AtMost}
 use Rattle.machine.specs.Pieces.{newCell, joined, rest, cutPieces}
 use Rattle.laws.specs.Counting.{occurs-append}
 use Rattle.steps.specs.Pieces.{parts-rising}

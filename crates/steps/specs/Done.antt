@@ -4,10 +4,11 @@ use mathlib.Core.Path.{_≡_, refl, ap, _∙_}
 use mathlib.Core.Bool.{true}
 use mathlib.Core.List.{List, [], _∷_, _++_, append-assoc}
 use mathlib.Core.Option.{some}
-use Rattle.octets.specs.Lists.{all-join}
+use Rattle.octets.specs.ListsLaws.{all-join}
 use Rattle.machine.specs.Codes.{roleReceive, kindArriving, kindWhole}
 use Rattle.machine.specs.Values.{Rec, Store, Key, sameKey}
-use Rattle.machine.specs.Sound.{isComplete, RecSized, Valid}
+use Rattle.machine.specs.Sound.{isComplete}
+use Rattle.machine.specs.Valid.{RecSized, Valid}
 use Rattle.machine.specs.Find.{without}
 use Rattle.machine.specs.Receive.{recKey, found, dropped, doneAt}
 use Rattle.laws.specs.Fine.{Fine, fine-fits}

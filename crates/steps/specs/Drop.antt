@@ -6,7 +6,7 @@ use mathlib.Core.List.{_++_}
 use mathlib.Core.Option.{Option, none, some}
 use Rattle.machine.specs.Codes.{heldKind}
 use Rattle.machine.specs.Values.{Rec, Store, Key, sameKey}
-use Rattle.machine.specs.Sound.{RecSized, Valid}
+use Rattle.machine.specs.Valid.{RecSized, Valid}
 use Rattle.machine.specs.Find.{without}
 use Rattle.machine.specs.Receive.{recKey, found, dropped, dropAt, dropStep}
 use Rattle.laws.specs.Keys.{key-eq, key-refl}

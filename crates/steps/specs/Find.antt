@@ -6,7 +6,7 @@ use mathlib.Core.Path.{_≡_, refl, ap, _∙_}
 use mathlib.Core.Bool.{Bool, true, false}
 use mathlib.Core.List.{List, [], _∷_, _++_}
 use mathlib.Core.Option.{Option, none, some, Option·none-ne-some, Option·some-ne-none, Option·some-injective}
-use Rattle.octets.specs.Bools.{cases, clash}
+use Rattle.octets.specs.BoolsLaws.{cases, clash}
 use Rattle.octets.specs.Lists.{All}
 use Rattle.machine.specs.Find.{find, swap, without, isSome}
 use Rattle.steps.specs.Totals.{total}

@@ -4,20 +4,20 @@ use native.Mathlib.Omega.{arith}
 use mathlib.Core.List.{List}
 use lib.ListN.{length}
 use Rattle.octets.specs.Octets.{part, Bytes}
-use Rattle.octets.specs.Parts.{length-part, length-part-le, bytes-part}
-use Rattle.octets.specs.Numbers.{num-lt}
+use Rattle.octets.specs.PartsLaws.{length-part, length-part-le, bytes-part}
+use Rattle.octets.specs.NumbersLaws.{num-lt}
 use Rattle.packet.specs.Frame.{piece, largestPiece}
 use Rattle.machine.specs.Limits.{largestTopic}
 use Rattle.machine.specs.Layout.{idWidth}
-use Rattle.machine.specs.Sound.{AtMost, HeadSized}
-use Rattle.machine.specs.Calls.{Packet, initHead}
+use Rattle.machine.specs.Valid.{AtMost, LabelSized}
+use Rattle.machine.specs.Packet.{Packet, initLabel}
 use Rattle.machine.specs.Typed.{TypedPacket}
 
 -- a part of a frame is bytes, at most as many as it asks for
 part-most : (f : List ℕ) (o n most : ℕ) → Bytes f → n ≤ most → AtMost most (part f o n)
 part-most f o n most b h = (omega (arith, length-part-le f o n), bytes-part f o n b)
 
-pub head-sized : (p : Packet) → TypedPacket p → idWidth ≤ length (p .frame) → HeadSized (initHead p)
+pub head-sized : (p : Packet) → TypedPacket p → idWidth ≤ length (p .frame) → LabelSized (initLabel p)
 head-sized p t h = record {
   id = (length-part (p .frame) _ _ (omega arith), bytes-part (p .frame) _ _ (t .frame));
   source = t .from;

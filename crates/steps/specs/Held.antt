@@ -2,10 +2,10 @@
 use Prim.Native.Nat.{ℕ}
 use mathlib.Core.Path.{_≡_}
 use mathlib.Core.Option.{some}
-use Rattle.octets.specs.Lists.{all-left}
+use Rattle.octets.specs.ListsLaws.{all-left}
 use Rattle.machine.specs.Codes.{heldKind}
 use Rattle.machine.specs.Values.{Rec, Store, Key, sameKey}
-use Rattle.machine.specs.Sound.{RecSized, Valid}
+use Rattle.machine.specs.Valid.{RecSized, Valid}
 use Rattle.machine.specs.Receive.{recKey, found}
 use Rattle.laws.specs.Fine.{Fine, fits-fine}
 use Rattle.laws.specs.Keys.{key-eq, key-refl}

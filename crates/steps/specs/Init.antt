@@ -7,12 +7,13 @@ use mathlib.Core.Option.{Option, none, some}
 use lib.ListN.{length}
 use lib.Dec.{ltb}
 use borrow.Author.Tests.{ltb-true}
-use Rattle.octets.specs.Octets.{pow}
+use Rattle.octets.specs.Octets.{capacity}
 use Rattle.machine.specs.Limits.{longest}
 use Rattle.machine.specs.Codes.{roleReceive, kindArriving}
-use Rattle.machine.specs.Values.{Head, Rec, Store, keyOf}
+use Rattle.machine.specs.Values.{Label, Rec, Store, keyOf}
 use Rattle.machine.specs.Chains.{first}
-use Rattle.machine.specs.Sound.{rising, HeadSized, RecSized, Valid}
+use Rattle.machine.specs.Sound.{rising}
+use Rattle.machine.specs.Valid.{LabelSized, RecSized, Valid}
 use Rattle.machine.specs.Find.{isSome}
 use Rattle.machine.specs.Receive.{found, started, freedCells, initAt, initStep}
 use Rattle.laws.specs.Fine.{fine-fits}
@@ -21,23 +22,23 @@ use Rattle.steps.specs.Keeps.{Fits}
 use Rattle.steps.specs.Change.{change-valid, add-valid}
 
 -- a head that a record can have
-pub record HeadFine (h : Head) : Type 0 where
-  pub sized : HeadSized h
+pub record LabelFine (h : Label) : Type 0 where
+  pub sized : LabelSized h
   pub reply : h .reply ≤ 1
   pub total : h .total ≤ longest
 
-started-fits : (place : ℕ) (h : Head) → HeadFine h → Fits roleReceive kindArriving (started place h)
+started-fits : (place : ℕ) (h : Label) → LabelFine h → Fits roleReceive kindArriving (started place h)
 unfolding rising
 started-fits place h g =
     fine-fits roleReceive kindArriving (started place h)
     (record { reply = g .reply; total = g .total; sending = refl; cells = tt; rises = refl; low = omega arith; high = omega arith; done = refl; cut = refl })
 
-started-sized : (place : ℕ) (h : Head) → HeadSized h → RecSized (started place h)
-unfolding pow
-started-sized place h g = record { head = g; created = omega arith; end = omega arith; cells = tt }
+started-sized : (place : ℕ) (h : Label) → LabelSized h → RecSized (started place h)
+unfolding capacity
+started-sized place h g = record { label = g; created = omega arith; end = omega arith; cells = tt }
 
-init-at : (o : Option Rec) (h : Head) (s : Store) → found (keyOf h) (s .held) ≡ o → found (keyOf h) (s .whole) ≡ none
-    → (isSome o || ltb 0 (length (s .free))) ≡ true → HeadFine h → Valid roleReceive s → Valid roleReceive (initAt o h s)
+init-at : (o : Option Rec) (h : Label) (s : Store) → found (keyOf h) (s .held) ≡ o → found (keyOf h) (s .whole) ≡ none
+    → (isSome o || ltb 0 (length (s .free))) ≡ true → LabelFine h → Valid roleReceive s → Valid roleReceive (initAt o h s)
 unfolding initAt
 init-at none h s e w n g v =
     add-valid roleReceive (started (first (s .free)) h) (s .freeCells) s e w (ltb-true 0 (length (s .free)) n) refl (λ k. omega arith)
@@ -47,6 +48,6 @@ init-at (some r) h s e w n g v =
     (started-fits (r .place) h g) (started-sized (r .place) h (g .sized)) v
 
 -- the id is not whole, and it is held or a record is free
-pub init-valid : (h : Head) (s : Store) → found (keyOf h) (s .whole) ≡ none → (isSome (found (keyOf h) (s .held)) || ltb 0 (length (s .free))) ≡ true
-    → HeadFine h → Valid roleReceive s → Valid roleReceive (initStep h s)
+pub init-valid : (h : Label) (s : Store) → found (keyOf h) (s .whole) ≡ none → (isSome (found (keyOf h) (s .held)) || ltb 0 (length (s .free))) ≡ true
+    → LabelFine h → Valid roleReceive s → Valid roleReceive (initStep h s)
 init-valid h s w n g v = init-at (found (keyOf h) (s .held)) h s refl w n g v

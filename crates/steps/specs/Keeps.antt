@@ -8,7 +8,8 @@ use lib.Dec.{eqb}
 use Rattle.octets.specs.Lists.{All}
 use Rattle.machine.specs.Codes.{roleReceive, heldKind, kindWhole}
 use Rattle.machine.specs.Values.{Rec, Store, Setup, sameKey}
-use Rattle.machine.specs.Sound.{recFits, noRec, RecSized, Valid}
+use Rattle.machine.specs.Sound.{recFits, noRec}
+use Rattle.machine.specs.Valid.{RecSized, Valid}
 use Rattle.machine.specs.Receive.{recKey}
 use Rattle.steps.specs.Unique.{Unique}
 use Rattle.steps.specs.Keys.{unique-distinct}

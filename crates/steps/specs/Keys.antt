@@ -3,8 +3,9 @@ use mathlib.Core.Path.{_≡_, refl}
 use mathlib.Core.Bool.{Bool, true, not}
 use mathlib.Core.List.{List, [], _∷_}
 use borrow.Author.Tests.{not-true}
-use Rattle.octets.specs.Bools.{split, both}
-use Rattle.octets.specs.Lists.{all, all-true, true-all, all-to}
+use Rattle.octets.specs.BoolsLaws.{split, both}
+use Rattle.octets.specs.Lists.{all}
+use Rattle.octets.specs.ListsLaws.{all-true, true-all, all-to}
 use Rattle.machine.specs.Values.{Rec, sameKey}
 use Rattle.machine.specs.Sound.{distinct}
 use Rattle.machine.specs.Receive.{recKey}

@@ -9,12 +9,13 @@ use mathlib.Core.Option.{some}
 use lib.ListN.{length, getD}
 use lib.Dec.{eqb, leb, ltb}
 use borrow.Author.Tests.{eqb-true, leb-true}
-use Rattle.octets.specs.Bools.{cases, clash, split}
+use Rattle.octets.specs.BoolsLaws.{cases, clash, split}
 use Rattle.octets.specs.Lists.{All}
 use Rattle.machine.specs.Limits.{longest, cutBy, slotsOf}
 use Rattle.machine.specs.Codes.{roleSend, kindLeaving}
 use Rattle.machine.specs.Values.{Cell, Rec, Store}
-use Rattle.machine.specs.Sound.{noRec, isCut, Valid}
+use Rattle.machine.specs.Sound.{noRec, isCut}
+use Rattle.machine.specs.Valid.{Valid}
 use Rattle.machine.specs.Pieces.{pieceAt}
 use Rattle.laws.specs.Fine.{Fine, fine-complete, cut-count}
 use Rattle.steps.specs.Nth.{index-between, piece-nth}
@@ -43,14 +44,14 @@ cut-most n (c ∷ l) h =
     (omega arith, cut-most (n - cutBy) l (s .1))
 
 module _ (r : Rec) (f : Fine roleSend kindLeaving r) where
-  pub leaving-count : length (r .cells) ≡ slotsOf (r .head .total)
-  leaving-count = cut-count (r .head .total) (r .cells) (f .cut)
+  pub leaving-count : length (r .cells) ≡ slotsOf (r .label .total)
+  leaving-count = cut-count (r .label .total) (r .cells) (f .cut)
 
   pub leaving-few : length (r .cells) ≤ slotsOf longest
   leaving-few = omega (arith, leaving-count, f .total)
 
   pub leaving-most : All (λ (c : Cell). length (c .bytes) ≤ cutBy) (r .cells)
-  leaving-most = cut-most (r .head .total) (r .cells) (f .cut)
+  leaving-most = cut-most (r .label .total) (r .cells) (f .cut)
 
   -- the i-th cell has index i, and is the piece at i
   pub leaving-index : (i : ℕ) (d : Cell) → i < length (r .cells) → getD (r .cells) i d .index ≡ i

@@ -6,11 +6,11 @@ use mathlib.Core.Path.{_≡_, refl}
 use mathlib.Core.Bool.{Bool, true, cond, _&&_, _||_}
 use mathlib.Core.List.{List, [], _∷_, map}
 use lib.Dec.{eqb, leb}
-use Rattle.octets.specs.Octets.{pow}
-use Rattle.octets.specs.Bools.{cases}
+use Rattle.octets.specs.Octets.{capacity}
+use Rattle.octets.specs.BoolsLaws.{cases}
 use Rattle.machine.specs.Codes.{roleSend, pieceSent, pieceAcked}
 use Rattle.machine.specs.Values.{Cell}
-use Rattle.machine.specs.Layout.{numberWidth, cellPlace}
+use Rattle.machine.specs.Layout.{numberLimit, cellPlace}
 use Rattle.machine.specs.Sound.{cellFits, rising, sizes, isCut}
 use Rattle.machine.specs.Pieces.{joined}
 use Rattle.machine.specs.Send.{marked, ackCell, stamped, due}
@@ -22,7 +22,7 @@ pub record Marks (f : Cell → Cell) : Type 0 where
   pub index : (c : Cell) → f c .index ≡ c .index
   pub bytes : (c : Cell) → f c .bytes ≡ c .bytes
   pub fits : (c : Cell) → cellFits roleSend c ≡ true → cellFits roleSend (f c) ≡ true
-  pub stamp : (c : Cell) → c .stamp < pow numberWidth → f c .stamp < pow numberWidth
+  pub stamp : (c : Cell) → c .stamp < numberLimit → f c .stamp < numberLimit
 
 -- ---- what such a map keeps
 
@@ -57,7 +57,7 @@ pub marks-same : Marks (λ c. c)
 marks-same = record { place = λ c. refl; index = λ c. refl; bytes = λ c. refl; fits = λ c h. h; stamp = λ c h. h }
 
 -- the cells that pass a test get a stamp and a state
-pub marks-if : (test : Cell → Bool) (stamp state : ℕ) → stamp < pow numberWidth → (leb state pieceAcked && (eqb state pieceSent || eqb stamp 0)) ≡ true
+pub marks-if : (test : Cell → Bool) (stamp state : ℕ) → stamp < numberLimit → (leb state pieceAcked && (eqb state pieceSent || eqb stamp 0)) ≡ true
     → Marks (λ c. cond (test c) (marked c stamp state) c)
 marks-if test stamp state b f = record {
   place = λ c. cases (test c) (λ e. rw e) (λ e. rw e);
@@ -68,7 +68,7 @@ marks-if test stamp state b f = record {
 }
 
 pub marks-ack : (index : ℕ) → Marks (ackCell index)
-unfolding pow
+unfolding capacity
 marks-ack index = marks-if (λ c. eqb (c .index) index) 0 pieceAcked (omega arith) refl
 
 pub marks-stamped : (clock : ℕ) → TypedClock clock → Marks (stamped clock)

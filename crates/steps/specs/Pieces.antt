@@ -7,7 +7,8 @@ use mathlib.Core.List.{List, [], _∷_, map}
 use mathlib.Core.Option.{Option, none, some, Option·map, Option·some-ne-none}
 use lib.Dec.{eqb, leb, ltb}
 use borrow.Author.Tests.{eqb-true, eqb-false, eq-eqb, ne-eqb, leb-true, le-leb, ltb-true, ltb-false, lt-ltb}
-use Rattle.octets.specs.Bools.{cases, clash, split, both, one}
+use Rattle.octets.specs.Bools.{one}
+use Rattle.octets.specs.BoolsLaws.{cases, clash, split, both}
 use Rattle.octets.specs.Lists.{All}
 use Rattle.machine.specs.Values.{Cell}
 use Rattle.machine.specs.Counting.{occurs}

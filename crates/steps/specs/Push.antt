@@ -7,40 +7,41 @@ use mathlib.Core.List.{List}
 use mathlib.Core.Option.{none}
 use lib.ListN.{length, drop}
 use borrow.Author.Tests.{eq-eqb, leb-true, ltb-true, not-true}
-use Rattle.octets.specs.Octets.{Bytes, pow}
-use Rattle.octets.specs.Bools.{both, one-le}
+use Rattle.octets.specs.Octets.{Bytes, capacity}
+use Rattle.octets.specs.BoolsLaws.{both, one-le}
 use Rattle.machine.specs.Limits.{longest, largestTopic, slotsOf}
-use Rattle.machine.specs.Codes.{roleSend, kindLeaving, stateInit}
-use Rattle.machine.specs.Values.{Head, Cell, Rec, Store, keyOf}
+use Rattle.machine.specs.Codes.{roleSend, kindLeaving, stateInit, yes}
+use Rattle.machine.specs.Values.{Label, Cell, Rec, Store, keyOf}
 use Rattle.machine.specs.Chains.{first}
-use Rattle.machine.specs.Layout.{numberWidth, decode}
-use Rattle.machine.specs.Sound.{cellFits, CellSized, RecSized, Valid}
+use Rattle.machine.specs.Layout.{numberLimit, decode}
+use Rattle.machine.specs.Sound.{cellFits}
+use Rattle.machine.specs.Valid.{CellSized, RecSized, Valid}
 use Rattle.machine.specs.Find.{find, isSome}
 use Rattle.machine.specs.Refusals.{refusal}
 use Rattle.machine.specs.Pieces.{cutPieces}
 use Rattle.machine.specs.Receive.{found}
 use Rattle.machine.specs.Send.{pushStep}
-use Rattle.machine.specs.Calls.{Push, yes, pushHead, pushRow}
+use Rattle.machine.specs.Push.{Push, pushLabel, pushRow}
 use Rattle.machine.specs.Typed.{TypedPush}
 use Rattle.laws.specs.Fine.{Fine, fine-fits}
 use Rattle.steps.specs.Refusals.{refusal-clear}
 use Rattle.steps.specs.Find.{is-none}
-use Rattle.steps.specs.Init.{HeadFine}
+use Rattle.steps.specs.Init.{LabelFine}
 use Rattle.steps.specs.Change.{add-valid}
 use Rattle.steps.specs.Cut.{occurs-cut, length-cut, rising-cut, sizes-cut, cut-cut, all-cut}
 use Rattle.steps.specs.Leaving.{leaving-whole}
 
 -- a new leaving record of a message, its pieces in the cells at the places
-abbrev pub leaving : ℕ → Head → ℕ → ℕ → List ℕ → List ℕ → Rec
+abbrev pub leaving : ℕ → Label → ℕ → ℕ → List ℕ → List ℕ → Rec
 leaving place h created end bytes places = record {
   place = place;
-  head = h;
+  label = h;
   slots = slotsOf (length bytes);
   sending = record { state = stateInit; timedOut = 0; created = created; end = end };
   cells = cutPieces (slotsOf (length bytes)) 0 places bytes;
 }
 
-module _ (place : ℕ) (h : Head) (created end : ℕ) (bytes places : List ℕ) (g : HeadFine h) (b : Bytes bytes) where
+module _ (place : ℕ) (h : Label) (created end : ℕ) (bytes places : List ℕ) (g : LabelFine h) (b : Bytes bytes) where
   pub leaving-fine : h .total ≡ length bytes → Fine roleSend kindLeaving (leaving place h created end bytes places)
   leaving-fine e =
       let n : ℕ = slotsOf (length bytes) in
@@ -57,10 +58,10 @@ module _ (place : ℕ) (h : Head) (created end : ℕ) (bytes places : List ℕ) 
         cut = rw e (cut-cut 0 places bytes);
       }
 
-  pub leaving-sized : created < pow numberWidth → end < pow numberWidth → RecSized (leaving place h created end bytes places)
-  unfolding pow
+  pub leaving-sized : created < numberLimit → end < numberLimit → RecSized (leaving place h created end bytes places)
+  unfolding capacity
   leaving-sized c d = record {
-    head = g .sized;
+    label = g .sized;
     created = c;
     end = d;
     cells = all-cut CellSized (slotsOf (length bytes)) 0 places bytes
@@ -68,8 +69,8 @@ module _ (place : ℕ) (h : Head) (created end : ℕ) (bytes places : List ℕ) 
   }
 
 -- the id is not held, a record and the cells that it needs are free
-pub pushed-valid : (h : Head) (created end : ℕ) (bytes : List ℕ) (s : Store) → found (keyOf h) (s .held) ≡ none → 0 < length (s .free)
-    → slotsOf (length bytes) ≤ length (s .freeCells) → HeadFine h → h .total ≡ length bytes → Bytes bytes → created < pow numberWidth → end < pow numberWidth
+pub pushed-valid : (h : Label) (created end : ℕ) (bytes : List ℕ) (s : Store) → found (keyOf h) (s .held) ≡ none → 0 < length (s .free)
+    → slotsOf (length bytes) ≤ length (s .freeCells) → LabelFine h → h .total ≡ length bytes → Bytes bytes → created < numberLimit → end < numberLimit
     → Valid roleSend s → Valid roleSend (pushStep h created end bytes s)
 unfolding pushStep find
 pushed-valid h created end bytes s n a c g e b x y v =
@@ -81,15 +82,15 @@ pushed-valid h created end bytes s n a c g e b x y v =
 
 -- the row that answers 0 bounds each field: row 24 created and end, 21 the topic, 6 the length
 pub push-valid : (p : Push) (send out : List ℕ) → TypedPush p → Valid roleSend (decode send) → refusal (pushRow p send out) ≡ 0
-    → Valid roleSend (pushStep (pushHead p) (p .created) (p .created + p .try) (p .bytes) (decode send))
-unfolding pushRow pow
+    → Valid roleSend (pushStep (pushLabel p) (p .created) (p .created + p .try) (p .bytes) (decode send))
+unfolding pushRow capacity
 push-valid p send out t v z =
     let s : Store = decode send in
     let c = refusal-clear (pushRow p send out) refl z in
     let w : length (p .topic) ≤ largestTopic = leb-true (length (p .topic)) largestTopic (c .1 .1 .0) in
     let m : length (p .bytes) ≤ longest = leb-true (length (p .bytes)) longest (c .1 .1 .1 .0) in
-    let y : p .created + p .try < pow numberWidth = ltb-true (p .created + p .try) (pow numberWidth) (c .1 .1 .1 .1 .0) in
-    pushed-valid (pushHead p) (p .created) (p .created + p .try) (p .bytes) s
+    let y : p .created + p .try < numberLimit = ltb-true (p .created + p .try) numberLimit (c .1 .1 .1 .1 .0) in
+    pushed-valid (pushLabel p) (p .created) (p .created + p .try) (p .bytes) s
     (is-none (found (p .id) (s .held)) (not-true (isSome (found (p .id) (s .held))) (c .1 .1 .1 .1 .1 .0)))
     (ltb-true 0 (length (s .free)) (c .1 .1 .1 .1 .1 .1 .0))
     (leb-true (slotsOf (length (p .bytes))) (length (s .freeCells)) (c .1 .1 .1 .1 .1 .1 .1 .0))

@@ -6,7 +6,7 @@ use mathlib.Core.Bool.{Bool, true}
 use mathlib.Core.List.{[], _∷_, _++_, append-nil}
 use lib.Dec.{ltb}
 use borrow.Author.Tests.{ltb-true}
-use Rattle.octets.specs.Bools.{cases, split}
+use Rattle.octets.specs.BoolsLaws.{cases, split}
 use Rattle.octets.specs.Lists.{all, All}
 use Rattle.machine.specs.Refusals.{Refusals, refusal}
 

@@ -7,12 +7,13 @@ use mathlib.Core.Option.{Option, none, some}
 use lib.ListN.{length-map}
 use lib.Dec.{leb}
 use borrow.Author.Tests.{le-leb}
-use Rattle.octets.specs.Bools.{both}
-use Rattle.octets.specs.Lists.{all-to, all-map}
+use Rattle.octets.specs.BoolsLaws.{both}
+use Rattle.octets.specs.ListsLaws.{all-to, all-map}
 use Rattle.machine.specs.Codes.{roleSend, kindLeaving, stateAborted}
 use Rattle.machine.specs.Values.{Cell, Rec, Store, Key}
 use Rattle.machine.specs.Counting.{occurs}
-use Rattle.machine.specs.Sound.{cellFits, CellSized, RecSized, Valid}
+use Rattle.machine.specs.Sound.{cellFits}
+use Rattle.machine.specs.Valid.{CellSized, RecSized, Valid}
 use Rattle.machine.specs.Receive.{found}
 use Rattle.machine.specs.Send.{changeAt}
 use Rattle.laws.specs.Fine.{Fine, fine-fits, sending-small}
@@ -24,7 +25,7 @@ use Rattle.steps.specs.Marks.{Marks, places-map, rising-map, sizes-map, 
 abbrev pub remarked : ℕ → ℕ → List Cell → Rec → Rec
 remarked state out cells r = record {
   place = r .place;
-  head = r .head;
+  label = r .label;
   slots = r .slots;
   sending = record { state = state; timedOut = out; created = r .sending .created; end = r .sending .end };
   cells = cells;
@@ -42,12 +43,12 @@ module _ (state out : ℕ) (f : Cell → Cell) (r : Rec) (m : Marks f) where
     low = g .low;
     high = g .high;
     done = rw (length-map (r .cells) f, sizes-map f m (r .cells)) (g .done);
-    cut = cut-map f m (r .head .total) (r .cells) ∙ g .cut;
+    cut = cut-map f m (r .label .total) (r .cells) ∙ g .cut;
   }
 
   remarked-sized : RecSized r → RecSized (remarked state out (map f (r .cells)) r)
   remarked-sized z = record {
-    head = z .head;
+    label = z .label;
     created = z .created;
     end = z .end;
     cells = all-map f CellSized (r .cells)

@@ -7,11 +7,11 @@ use Rattle.packet.specs.declared.header.Kind.the-variants.{Init, Chunk, Done, R
 use Rattle.packet.specs.Frame.{chunkIndex}
 use Rattle.machine.specs.Codes.{roleSend, stateInProgress, stateReceived, stateRead, stateAborted}
 use Rattle.machine.specs.Values.{Store, Key}
-use Rattle.machine.specs.Sound.{Valid}
+use Rattle.machine.specs.Valid.{Valid}
 use Rattle.machine.specs.Refusals.{refusal}
 use Rattle.machine.specs.Receive.{found}
 use Rattle.machine.specs.Send.{withState, ackCell, ackPiece, change}
-use Rattle.machine.specs.Calls.{Packet, kind, asked, kindRow, sendStep}
+use Rattle.machine.specs.Packet.{Packet, kind, asked, kindRow, sendStep}
 use Rattle.machine.specs.Typed.{TypedPacket}
 use Rattle.steps.specs.Marks.{marks-ack}
 use Rattle.steps.specs.Remarked.{remarked-valid, restated-valid, held-small, change-at}

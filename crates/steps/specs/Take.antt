@@ -5,7 +5,7 @@ use mathlib.Core.List.{List, [], _∷_, _++_}
 use Rattle.octets.specs.Lists.{All}
 use Rattle.machine.specs.Codes.{roleReceive, kindWhole}
 use Rattle.machine.specs.Values.{Rec, Store, sameKey}
-use Rattle.machine.specs.Sound.{RecSized, Valid}
+use Rattle.machine.specs.Valid.{RecSized, Valid}
 use Rattle.machine.specs.Receive.{recKey, takeFrom, takeStep}
 use Rattle.steps.specs.Totals.{total}
 use Rattle.steps.specs.Unique.{all-skip, unique-skip}

@@ -3,8 +3,9 @@ use mathlib.Core.Path.{_≡_}
 use mathlib.Core.Bool.{Bool, true}
 use mathlib.Core.List.{List, [], _∷_, _++_}
 use mathlib.Core.Option.{none, some, Option·none-ne-some}
-use Rattle.octets.specs.Bools.{cases}
-use Rattle.octets.specs.Lists.{All, all-left, all-right, all-join}
+use Rattle.octets.specs.BoolsLaws.{cases}
+use Rattle.octets.specs.Lists.{All}
+use Rattle.octets.specs.ListsLaws.{all-left, all-right, all-join}
 use Rattle.machine.specs.Find.{find, swap, without}
 use Rattle.steps.specs.Find.{Differs, Absent, absent-none, all-swap, all-without, same-flip}
 

@@ -5,13 +5,13 @@ use mathlib.Core.Path.{_≡_, refl}
 use mathlib.Core.List.{List}
 use mathlib.Core.Option.{Option, none, some}
 use lib.Dec.{eqb}
-use Rattle.octets.specs.Bools.{cases}
+use Rattle.octets.specs.BoolsLaws.{cases}
 use Rattle.machine.specs.Codes.{roleSend, stateInProgress, stateAborted}
 use Rattle.machine.specs.Values.{Rec, Store, Key}
-use Rattle.machine.specs.Sound.{Valid}
+use Rattle.machine.specs.Valid.{Valid}
 use Rattle.machine.specs.Receive.{found}
 use Rattle.machine.specs.Send.{woken, stamped, unsettled, changeAt, change, deadlineAt}
-use Rattle.machine.specs.Calls.{sendWake, wakeStep}
+use Rattle.machine.specs.Wake.{sendWake, wakeStep}
 use Rattle.machine.specs.Typed.{TypedClock}
 use Rattle.steps.specs.Change.{changed}
 use Rattle.steps.specs.Drop.{drop-at}

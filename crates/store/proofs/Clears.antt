@@ -6,11 +6,11 @@ use mathlib.Core.List.{List, [], _∷_}
 use lib.ListN.{length, getD, replicate}
 use borrow.Author.Tests.{eq-eqb, ne-eqb}
 use Rattle.octets.specs.Octets.{put}
-use Rattle.octets.specs.Parts.{more}
+use Rattle.octets.specs.PartsLaws.{more}
 use Rattle.machine.specs.Limits.{cellBytes, mostCells}
 use Rattle.machine.specs.Layout.{freeCellsAt, cellOff, freeRow}
 use Rattle.store.specs.Clearing.{orElse, cellFree, freeFrom, clearFrom, Clearable}
-use Rattle.store.specs.Cleared.{chain-next, cell-free-long}
+use Rattle.store.specs.ClearedLaws.{chain-next, cell-free-long}
 
 -- the link is written, then zeros: the row of a free cell
 pub cell-is : (b m l : List ℕ) (row to p end : ℕ) → Clearable p end b → 0 < p → row ≡ cellOff p → to ≡ orElse end (getD b row 0)

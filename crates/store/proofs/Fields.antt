@@ -5,7 +5,7 @@ use mathlib.Core.Path.{_≡_, sym, ap, _∙_}
 use mathlib.Core.List.{List}
 use lib.ListN.{getD, take, drop}
 use Rattle.octets.specs.Octets.{part, num}
-use Rattle.octets.specs.Parts.{getD-part, part-part, part-of}
+use Rattle.octets.specs.PartsLaws.{getD-part, part-part, part-of}
 use Rattle.machine.specs.Limits.{recBytes}
 use Rattle.machine.specs.Layout.{recOff, recAt, numAt, numberWidth}
 

@@ -5,7 +5,7 @@ use mathlib.Core.Path.{_≡_, ap, _∙_}
 use mathlib.Core.List.{List, [], _∷_}
 use lib.ListN.{getD, take, drop}
 use Rattle.octets.specs.Octets.{part, put}
-use Rattle.octets.specs.Parts.{part-of}
+use Rattle.octets.specs.PartsLaws.{part-of}
 use Rattle.machine.specs.Codes.{kindWhole}
 use Rattle.machine.specs.Values.{Key}
 use Rattle.machine.specs.Layout.{wholeAt, idAt, idWidth, recOff}

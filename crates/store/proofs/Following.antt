@@ -6,13 +6,13 @@ use mathlib.Core.Bool.{Bool, true, false}
 use mathlib.Core.List.{List}
 use lib.ListN.{getD, take, drop}
 use Rattle.octets.specs.Octets.{part, same}
-use Rattle.octets.specs.Parts.{part-of}
+use Rattle.octets.specs.PartsLaws.{part-of}
 use Rattle.machine.specs.Limits.{recCount}
 use Rattle.machine.specs.Values.{sameKey}
 use Rattle.machine.specs.Layout.{recOff, idAt, idWidth}
 use Rattle.links.specs.Links.{RecLink}
 use Rattle.store.specs.Seek.{idIn, seekFrom, seek}
-use Rattle.store.specs.Sought.{seek-end, seek-here, seek-next}
+use Rattle.store.specs.SoughtLaws.{seek-end, seek-here, seek-next}
 
 -- what holds at each turn, with n links passed
 pub record Following (k b : List ℕ) (at link n : ℕ) : Type 0 where

@@ -6,10 +6,10 @@ use mathlib.Core.Path.{_≡_, refl, ap, _∙_}
 use mathlib.Core.List.{List, [], _∷_, _++_}
 use lib.ListN.{length, getD, replicate, length-replicate}
 use Rattle.octets.specs.Octets.{put, be}
-use Rattle.octets.specs.Numbers.{length-be}
-use Rattle.octets.specs.Written.{Written, wrote, then}
+use Rattle.octets.specs.NumbersLaws.{length-be}
+use Rattle.octets.specs.WrittenLaws.{Written, wrote, then}
 use Rattle.machine.specs.Limits.{largestTopic, recBytes, slotsOf}
-use Rattle.machine.specs.Values.{Head}
+use Rattle.machine.specs.Values.{Label}
 use Rattle.machine.specs.Layout.{freeAt, heldAt, idAt, sourceAt, destinationAt, totalAt, createdAt, endAt, topicAt, idWidth, addressWidth, numberWidth, recOff}
 use Rattle.store.specs.Opening.{opened, FieldsFit, frontOf, restOf}
 
@@ -18,7 +18,7 @@ next : {b m l v : List ℕ} {a n : ℕ} (o : ℕ) (w : List ℕ) (k : ℕ) → W
     → Written b a l (v ++ w) (n + k)
 next {b} {m} o w k h e q s f = then w k h (e ∙ ap (λ (x : ℕ). put m x w) q) s f
 
-pub front-is : (b m1 m2 m3 l : List ℕ) (row kind cell r q : ℕ) (h : Head) → FieldsFit h → row + recBytes ≤ length b → r ≡ h .reply → q ≡ slotsOf (h .total)
+pub front-is : (b m1 m2 m3 l : List ℕ) (row kind cell r q : ℕ) (h : Label) → FieldsFit h → row + recBytes ≤ length b → r ≡ h .reply → q ≡ slotsOf (h .total)
     → m1 ≡ put b (row + 1) (kind ∷ r ∷ 0 ∷ 0 ∷ cell ∷ length (h .topic) ∷ q ∷ []) → m2 ≡ put m1 (row + idAt) (h .id)
     → m3 ≡ put m2 (row + sourceAt) (h .source) → l ≡ put m3 (row + destinationAt) (h .destination) → l ≡ put b (row + 1) (frontOf kind cell h)
 front-is b m1 m2 m3 l row kind cell r q h z f e1 e2 w1 w2 w3 w4 =

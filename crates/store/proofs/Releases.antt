@@ -5,7 +5,7 @@ use mathlib.Core.Path.{_≡_, refl, _∙_}
 use mathlib.Core.List.{List, [], _∷_}
 use lib.ListN.{length, getD, replicate}
 use Rattle.octets.specs.Octets.{put}
-use Rattle.octets.specs.Parts.{more}
+use Rattle.octets.specs.PartsLaws.{more}
 use Rattle.machine.specs.Limits.{recBytes}
 use Rattle.machine.specs.Layout.{freeAt, firstCellAt, recOff, freeRow}
 use Rattle.store.specs.Releasing.{recFree, released, unlinked}

@@ -9,7 +9,7 @@ use Rattle.octets.specs.Octets.{put, be}
 use Rattle.octets.specs.Bools.{one}
 use Rattle.machine.specs.Limits.{longest, largestTopic, recCount, storeBytes, slotsOf}
 use Rattle.machine.specs.Codes.{roleReceive, stateInit}
-use Rattle.machine.specs.Values.{Head, Cell, Rec, keyOf}
+use Rattle.machine.specs.Values.{Label, Cell, Rec, keyOf}
 use Rattle.machine.specs.Layout.{freeAt, heldAt, idWidth, addressWidth, numberWidth, recOff, recRow, decode}
 use Rattle.machine.specs.Sound.{sound}
 use Rattle.machine.specs.Receive.{found}
@@ -27,11 +27,11 @@ opened b =
     freeAt (getD b (recOff (getD b freeAt 0)) 0 ∷ getD b freeAt 0 ∷ [])
 
 -- what an init says
-abbrev pub newHead : List ℕ → List ℕ → List ℕ → Bool → ℕ → List ℕ → Head
-newHead id source destination reply total topic = record { id = id; source = source; destination = destination; reply = one reply; total = total; topic = topic }
+abbrev pub newLabel : List ℕ → List ℕ → List ℕ → Bool → ℕ → List ℕ → Label
+newLabel id source destination reply total topic = record { id = id; source = source; destination = destination; reply = one reply; total = total; topic = topic }
 
 -- fields of a new record that have their widths
-pub record FieldsFit (h : Head) : Type 0 where
+pub record FieldsFit (h : Label) : Type 0 where
   pub id : length (h .id) ≡ idWidth
   pub source : length (h .source) ≡ addressWidth
   pub destination : length (h .destination) ≡ addressWidth
@@ -39,27 +39,27 @@ pub record FieldsFit (h : Head) : Type 0 where
   pub topic : length (h .topic) ≤ largestTopic
 
 -- a new record at the place p; what arrives has neither created nor end, nor pieces yet
-abbrev pub newRec : ℕ → Head → ℕ → ℕ → List Cell → Rec
+abbrev pub newRec : ℕ → Label → ℕ → ℕ → List Cell → Rec
 newRec p h created end cells = record {
   place = p;
-  head = h;
+  label = h;
   slots = slotsOf (h .total);
   sending = record { state = stateInit; timedOut = 0; created = created; end = end };
   cells = cells;
 }
 
 -- its row behind the link, in two parts: from its kind to its destination, and what follows; its first cell is at the place `cell`
-abbrev pub frontOf : ℕ → ℕ → Head → List ℕ
+abbrev pub frontOf : ℕ → ℕ → Label → List ℕ
 frontOf kind cell h = (kind ∷ h .reply ∷ stateInit ∷ 0 ∷ cell ∷ length (h .topic) ∷ slotsOf (h .total) ∷ []) ++ h .id ++ h .source ++ h .destination
 
 abbrev pub restOf : ℕ → ℕ → ℕ → List ℕ → List ℕ
 restOf total created end topic = be numberWidth total ++ be numberWidth created ++ be numberWidth end ++ topic ++ replicate (suc largestTopic - length topic) 0
 
-abbrev pub newRow : ℕ → ℕ → Head → ℕ → ℕ → List ℕ
+abbrev pub newRow : ℕ → ℕ → Label → ℕ → ℕ → List ℕ
 newRow kind cell h created end = frontOf kind cell h ++ restOf (h .total) created end (h .topic)
 
 -- b with that row in the first free record, which becomes the first held
-abbrev pub openedRow : ℕ → ℕ → Head → ℕ → ℕ → List ℕ → List ℕ
+abbrev pub openedRow : ℕ → ℕ → Label → ℕ → ℕ → List ℕ → List ℕ
 openedRow kind cell h created end b = opened (put b (recOff (getD b freeAt 0) + 1) (newRow kind cell h created end))
 
 -- b with the record r, of a kind, in the first free place, as the first held
@@ -69,7 +69,7 @@ openedWith kind r b =
     freeAt (getD b (recOff (getD b freeAt 0)) 0 ∷ getD b freeAt 0 ∷ [])
 
 -- a sound receive store with a free record, and a head whose id it does not hold
-pub record Ready (b : List ℕ) (h : Head) : Type 0 where
+pub record Ready (b : List ℕ) (h : Label) : Type 0 where
   pub sound : sound roleReceive b ≡ true
   pub free : Openable b
   pub held : found (keyOf h) (decode b .held) ≡ none

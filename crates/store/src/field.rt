@@ -10,7 +10,7 @@ ghost use Prim.Native.Nat.{_+_, _<_, _≤_};
 ghost use Rattle.octets.specs.Octets.{part};
 ghost use lib.ListN.{getD};
 ghost use Rattle.machine.specs.Limits.{recBytes};
-ghost use Rattle.machine.specs.Layout.{numberWidth, firstCellAt, slotsAt, numAt, headOf, sendingOf};
+ghost use Rattle.machine.specs.Layout.{numberWidth, firstCellAt, slotsAt, numAt, labelOf, sendingOf};
 ghost use Rattle.store.specs.HeldAt.{rowIn, Reached};
 
 // The byte at o of the record's row.
@@ -41,7 +41,7 @@ fn bytes(store: &[u8], at: usize, o: usize, n: usize) -> &[u8]
 // The message's length.
 pub fn total(store: &[u8], at: usize) -> u64
     requires { ⌜ Reached (now store) at ⌝ }
-    ensures { λ r. ⌜ r ≡ headOf (rowIn (now (store .entry)) at) .total ⌝ }
+    ensures { λ r. ⌜ r ≡ labelOf (rowIn (now (store .entry)) at) .total ⌝ }
 {
     number(store, at, Record::LENGTH)
 }
@@ -57,7 +57,7 @@ pub fn slots(store: &[u8], at: usize) -> u64
 // Whether it is a reply.
 pub fn reply(store: &[u8], at: usize) -> u8
     requires { ⌜ Reached (now store) at ⌝ }
-    ensures { λ r. ⌜ r ≡ headOf (rowIn (now (store .entry)) at) .reply ⌝ }
+    ensures { λ r. ⌜ r ≡ labelOf (rowIn (now (store .entry)) at) .reply ⌝ }
 {
     byte(store, at, Record::REPLY)
 }
@@ -97,7 +97,7 @@ pub fn end(store: &[u8], at: usize) -> u64
 // The id, as that part of the store.
 pub fn id(store: &[u8], at: usize) -> &[u8]
     requires { ⌜ Reached (now store) at ⌝ }
-    ensures { λ r. ⌜ now r ≡ headOf (rowIn (now (store .entry)) at) .id ⌝ }
+    ensures { λ r. ⌜ now r ≡ labelOf (rowIn (now (store .entry)) at) .id ⌝ }
 {
     bytes(store, at, Record::ID, ID_SIZE)
 }
@@ -105,7 +105,7 @@ pub fn id(store: &[u8], at: usize) -> &[u8]
 // The source's address, as that part of the store.
 pub fn source(store: &[u8], at: usize) -> &[u8]
     requires { ⌜ Reached (now store) at ⌝ }
-    ensures { λ r. ⌜ now r ≡ headOf (rowIn (now (store .entry)) at) .source ⌝ }
+    ensures { λ r. ⌜ now r ≡ labelOf (rowIn (now (store .entry)) at) .source ⌝ }
 {
     bytes(store, at, Record::SOURCE, ADDRESS_SIZE)
 }
@@ -113,7 +113,7 @@ pub fn source(store: &[u8], at: usize) -> &[u8]
 // The destination's address, as that part of the store.
 pub fn destination(store: &[u8], at: usize) -> &[u8]
     requires { ⌜ Reached (now store) at ⌝ }
-    ensures { λ r. ⌜ now r ≡ headOf (rowIn (now (store .entry)) at) .destination ⌝ }
+    ensures { λ r. ⌜ now r ≡ labelOf (rowIn (now (store .entry)) at) .destination ⌝ }
 {
     bytes(store, at, Record::DESTINATION, ADDRESS_SIZE)
 }
@@ -121,7 +121,7 @@ pub fn destination(store: &[u8], at: usize) -> &[u8]
 // The topic, as that part of the store.
 pub fn topic(store: &[u8], at: usize) -> &[u8]
     requires { ⌜ Reached (now store) at ⌝ }
-    ensures { λ r. ⌜ now r ≡ headOf (rowIn (now (store .entry)) at) .topic ⌝ }
+    ensures { λ r. ⌜ now r ≡ labelOf (rowIn (now (store .entry)) at) .topic ⌝ }
 {
     let size = octets::small(byte(store, at, Record::TOPIC_LENGTH));
     bytes(store, at, Record::TOPIC, size)

@@ -14,7 +14,7 @@ ghost use Rattle.machine.specs.Limits.{longest, largestTopic, recBytes, slotsOf
 ghost use Rattle.machine.specs.Codes.{kindLeaving};
 ghost use Rattle.machine.specs.Layout.{totalAt, encode, decode};
 ghost use Rattle.machine.specs.Receive.{initAt};
-ghost use Rattle.store.specs.Opening.{Openable, opened, newHead, FieldsFit, frontOf, restOf, newRow, openedRow, Ready};
+ghost use Rattle.store.specs.Opening.{Openable, opened, newLabel, FieldsFit, frontOf, restOf, newRow, openedRow, Ready};
 
 // The first free record, in which all but its link is written, becomes the first held.
 pub fn hold(store: &mut [u8])
@@ -57,8 +57,8 @@ fn put_front(
     total: u64,
     topic: &[u8],
 )
-    requires { ⌜ FieldsFit (newHead (now id) (now source) (now destination) reply total (now topic)) × (row + recBytes ≤ length (now store)) ⌝ }
-    ensures { λ _. ⌜ now (store .exit) ≡ put (now (store .entry)) (row + 1) (frontOf kind cell (newHead (now (id .entry)) (now (source .entry)) (now (destination .entry)) reply total (now (topic .entry)))) ⌝ }
+    requires { ⌜ FieldsFit (newLabel (now id) (now source) (now destination) reply total (now topic)) × (row + recBytes ≤ length (now store)) ⌝ }
+    ensures { λ _. ⌜ now (store .exit) ≡ put (now (store .entry)) (row + 1) (frontOf kind cell (newLabel (now (id .entry)) (now (source .entry)) (now (destination .entry)) reply total (now (topic .entry)))) ⌝ }
 {
     let front = [
         kind,
@@ -108,8 +108,8 @@ pub fn put_row(
     created: u64,
     end: u64,
 )
-    requires { ⌜ FieldsFit (newHead (now id) (now source) (now destination) reply total (now topic)) × (row + recBytes ≤ length (now store)) ⌝ }
-    ensures { λ _. ⌜ now (store .exit) ≡ put (now (store .entry)) (row + 1) (newRow kind cell (newHead (now (id .entry)) (now (source .entry)) (now (destination .entry)) reply total (now (topic .entry))) created end) ⌝ }
+    requires { ⌜ FieldsFit (newLabel (now id) (now source) (now destination) reply total (now topic)) × (row + recBytes ≤ length (now store)) ⌝ }
+    ensures { λ _. ⌜ now (store .exit) ≡ put (now (store .entry)) (row + 1) (newRow kind cell (newLabel (now (id .entry)) (now (source .entry)) (now (destination .entry)) reply total (now (topic .entry))) created end) ⌝ }
 {
     put_front(
         store,
@@ -141,9 +141,9 @@ fn open_row(
     end: u64,
 )
     requires { ⌜ Openable (now store)
-        × FieldsFit (newHead (now id) (now source) (now destination) reply total (now topic)) ⌝ }
+        × FieldsFit (newLabel (now id) (now source) (now destination) reply total (now topic)) ⌝ }
     ensures { λ _.
-        let h = newHead (now (id .entry)) (now (source .entry)) (now (destination .entry)) reply total (now (topic .entry)) in
+        let h = newLabel (now (id .entry)) (now (source .entry)) (now (destination .entry)) reply total (now (topic .entry)) in
         ⌜ now (store .exit) ≡ openedRow kind cell h created end (now (store .entry)) ⌝ }
 {
     let row = place::rec_off(store[Head::FREE]);
@@ -174,8 +174,8 @@ pub fn open_arriving(
     total: u64,
     topic: &[u8],
 )
-    requires { ⌜ Ready (now store) (newHead (now id) (now source) (now destination) reply total (now topic)) ⌝ }
-    ensures { λ _. ⌜ now (store .exit) ≡ encode (initAt none (newHead (now (id .entry)) (now (source .entry)) (now (destination .entry)) reply total (now (topic .entry))) (decode (now (store .entry)))) ⌝ }
+    requires { ⌜ Ready (now store) (newLabel (now id) (now source) (now destination) reply total (now topic)) ⌝ }
+    ensures { λ _. ⌜ now (store .exit) ≡ encode (initAt none (newLabel (now (id .entry)) (now (source .entry)) (now (destination .entry)) reply total (now (topic .entry))) (decode (now (store .entry)))) ⌝ }
 {
     open_row(
         store,
@@ -206,9 +206,9 @@ pub fn open_leaving(
     end: u64,
 )
     requires { ⌜ Openable (now store)
-        × FieldsFit (newHead (now id) (now source) (now destination) reply total (now topic)) ⌝ }
+        × FieldsFit (newLabel (now id) (now source) (now destination) reply total (now topic)) ⌝ }
     ensures { λ _.
-        let h = newHead (now (id .entry)) (now (source .entry)) (now (destination .entry)) reply total (now (topic .entry)) in
+        let h = newLabel (now (id .entry)) (now (source .entry)) (now (destination .entry)) reply total (now (topic .entry)) in
         ⌜ now (store .exit) ≡ openedRow kindLeaving cell h created end (now (store .entry)) ⌝ }
 {
     open_row(

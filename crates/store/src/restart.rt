@@ -10,7 +10,7 @@ ghost use Rattle.machine.specs.Codes.{roleReceive};
 ghost use Rattle.machine.specs.Layout.{encode, decode};
 ghost use Rattle.machine.specs.Receive.{initAt};
 ghost use Rattle.store.specs.HeldAt.{recIn, keyIn, HeldAt};
-ghost use Rattle.store.specs.Opening.{newHead, FieldsFit};
+ghost use Rattle.store.specs.Opening.{newLabel, FieldsFit};
 
 // The held record whose link stands at byte at, and whose id is id, starts again.
 pub fn restart(
@@ -23,8 +23,8 @@ pub fn restart(
     total: u64,
     topic: &[u8],
 )
-    requires { ⌜ HeldAt roleReceive (now store) at × (now id ≡ keyIn (now store) at) × FieldsFit (newHead (now id) (now source) (now destination) reply total (now topic)) ⌝ }
-    ensures { λ _. ⌜ now (store .exit) ≡ encode (initAt (some (recIn (now (store .entry)) at)) (newHead (now (id .entry)) (now (source .entry)) (now (destination .entry)) reply total (now (topic .entry))) (decode (now (store .entry)))) ⌝ }
+    requires { ⌜ HeldAt roleReceive (now store) at × (now id ≡ keyIn (now store) at) × FieldsFit (newLabel (now id) (now source) (now destination) reply total (now topic)) ⌝ }
+    ensures { λ _. ⌜ now (store .exit) ≡ encode (initAt (some (recIn (now (store .entry)) at)) (newLabel (now (id .entry)) (now (source .entry)) (now (destination .entry)) reply total (now (topic .entry))) (decode (now (store .entry)))) ⌝ }
 {
     let row = place::row_at(store, at);
     let first = store[row + Record::FIRST_CELL];

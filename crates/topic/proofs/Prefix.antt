@@ -11,7 +11,7 @@ use lib.Dec.{eqb}
 use lib.Bits.{bitAnd, and-high}
 use lib.Pow.{pow-pos, pow-mono, low, shl-shr, shr-shr, shr-mod}
 use borrow.Author.Tests.{eqb-true, eq-eqb, ne-eqb}
-use Rattle.octets.specs.Bools.{iff, split, both}
+use Rattle.octets.specs.BoolsLaws.{iff, split, both}
 use Rattle.topic.specs.Subnet.{inside}
 
 -- ---- a byte

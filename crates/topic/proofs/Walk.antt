@@ -7,7 +7,7 @@ use mathlib.Core.List.{List, [], _∷_, map}
 use lib.ListN.{length, getD}
 use lib.Dec.{leb, ltb}
 use borrow.Author.Tests.{lt-ltb, le-ltb, leb-true, ltb-true}
-use Rattle.octets.specs.Bools.{cases, split}
+use Rattle.octets.specs.BoolsLaws.{cases, split}
 use Rattle.octets.specs.Lists.{all}
 use Rattle.topic.specs.Book.{Entry, subnetBytes, subnetAt, subnetsAt, countAt, subnetsOf, endAt, entryAt, starts, entriesFrom, uncut, allFit, distinct, wellFormed}
 

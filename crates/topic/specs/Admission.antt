@@ -1,4 +1,4 @@
--- The answer that a book gives, and the number that each answer has in document 01.
+-- The answer that a book gives: PROTOCOL, "Rules and addresses".
 use Prim.Native.Nat.{ℕ}
 use mathlib.Core.Bool.{cond}
 use mathlib.Core.List.{List}
@@ -9,9 +9,3 @@ use Rattle.topic.specs.declared.book.Admission.the-variants.{Malformed, 
 -- the whole book is checked before the topic is looked up
 abbrev pub admissionOf : List ℕ → List ℕ → List ℕ → Admission
 admissionOf b topic source = cond (wellFormed b) (cond (admits b topic source) Open Closed) Malformed
-
--- refusal 3, bad rules; 4, closed topic; 0, none
-abbrev pub numberOf : Admission → ℕ
-numberOf Malformed = 3
-numberOf Closed = 4
-numberOf Open = 0

@@ -1,4 +1,4 @@
--- The rule book (document 01, "Rule book"): what its bytes say, when they are well formed, and whom a book admits.
+-- The rule book (PROTOCOL, "Rules and addresses"): what its bytes say, when they are well formed, and whom a book admits.
 use Prim.Native.Nat.{ℕ, zero, suc, _+_, _*_}
 use mathlib.Core.Bool.{Bool, true, false, not, cond, _&&_, _||_}
 use mathlib.Core.List.{List, [], _∷_, map}

@@ -9,7 +9,8 @@ use lib.Seq.{length-take-le, take-all}
 use Prim.Native.Nat.{ℕ, _+_, _-_, _/_, _<_}
 use borrow.Fn.PlainCycle.{Measures, is, falls, and}
 use Rattle.blake3.specs.Compression.{chaining}
-use Rattle.blake3.specs.Tree.{parentNode, node, Left}
+use Rattle.blake3.specs.Tree.{parentNode, node}
+use Rattle.blake3.specs.Split.{Left}
 use Rattle.blake3.specs.Laws.{node-chunk, node-parent}
 use Rattle.blake3.proofs.tree.subtree.Reads as subtree
 use Rattle.blake3.proofs.tree.subtree.Kinds as subtree-kinds

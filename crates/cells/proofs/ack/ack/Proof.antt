@@ -6,8 +6,8 @@ use lib.ListN.{getD}
 use Rattle.machine.specs.Codes.{pieceAcked}
 use Rattle.store.specs.HeldAt.{placeAt}
 use Rattle.cells.specs.InPlace.{spotFrom, spotIn, remarked, CellIn}
-use Rattle.cells.specs.OfHeld.{here-links}
-use Rattle.cells.specs.Ack.{acked-is, acked-cell}
+use Rattle.cells.specs.OfHeldLaws.{here-links}
+use Rattle.cells.specs.AckLaws.{acked-is, acked-cell}
 use borrow.Author.Needs.{needs}
 use Rattle.cells.proofs.ack.ack.Statement.{statement}
 use Rattle.cells.proofs.ack.ack.Tie as tie

@@ -71,7 +71,7 @@ slice-aggregate-copy-in c = search needs
 copy-in-requires : tie.Need-copy-in-requires Inv-loop μ-loop
 copy-in-requires c κs =
     let loop = c .before .before .before in
-    let head = cut-head _ _ (given (loop .before .before)) in
+    let label = cut-head _ _ (given (loop .before .before)) in
     omega (arith, loop .loop .inv .long)
 
 same-length : tie.Need-same-length Inv-loop μ-loop

@@ -6,8 +6,8 @@ use lib.ListN.{length, getD}
 use Rattle.links.specs.Links.{Links}
 use Rattle.machine.specs.Layout.{freeCellsAt}
 use Rattle.cells.specs.InPlace.{spotIn, holdsIndex, chunked, PieceFits}
-use Rattle.cells.specs.OfHeld.{here-inside}
-use Rattle.cells.specs.Chunk.{put-is, put-asks}
+use Rattle.cells.specs.OfHeldLaws.{here-inside}
+use Rattle.cells.specs.ChunkLaws.{put-is, put-asks}
 use borrow.Author.Needs.{needs}
 use Rattle.cells.proofs.insert.put_piece.Statement.{statement}
 use Rattle.cells.proofs.insert.put_piece.Tie as tie

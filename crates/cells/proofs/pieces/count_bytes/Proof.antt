@@ -3,7 +3,7 @@ use Prim.Native.Nat.{ℕ}
 use mathlib.Core.Path.{sym, ap, _∙_}
 use Rattle.machine.specs.Sound.{sizes}
 use Rattle.machine.specs.Layout.{readCells}
-use Rattle.cells.specs.OfHeld.{cells-here, here-links}
+use Rattle.cells.specs.OfHeldLaws.{cells-here, here-links}
 use borrow.Author.Needs.{needs}
 use Rattle.cells.proofs.pieces.count_bytes.Statement.{statement}
 use Rattle.cells.proofs.pieces.count_bytes.Tie as tie

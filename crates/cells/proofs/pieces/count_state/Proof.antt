@@ -4,7 +4,7 @@ use Prim.Native.Nat.{ℕ}
 use mathlib.Core.Path.{_≡_, sym, ap, _∙_}
 use Rattle.machine.specs.Layout.{readCells}
 use Rattle.store.specs.HeldAt.{recIn}
-use Rattle.cells.specs.OfHeld.{cells-here, here-links, here-states}
+use Rattle.cells.specs.OfHeldLaws.{cells-here, here-links, here-states}
 use Rattle.cells.proofs.Walks.{stateCount}
 use borrow.Author.Needs.{needs}
 use Rattle.cells.proofs.pieces.count_state.Statement.{statement}

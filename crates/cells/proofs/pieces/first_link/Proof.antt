@@ -3,9 +3,9 @@ use native.Mathlib.Omega.{arith}
 use Prim.Native.Nat.{_+_}
 use mathlib.Core.Path.{_≡_, sym, subst}
 use Rattle.store.specs.HeldAt.{placeAt}
-use Rattle.store.specs.Met.{here-within}
+use Rattle.store.specs.MetLaws.{here-within}
 use Rattle.cells.specs.InPlace.{firstLink, LinkIn}
-use Rattle.cells.specs.OfHeld.{here-inside, here-first}
+use Rattle.cells.specs.OfHeldLaws.{here-inside, here-first}
 use borrow.Author.Needs.{needs}
 use Rattle.cells.proofs.pieces.first_link.Statement.{statement}
 use Rattle.cells.proofs.pieces.first_link.Tie as tie

@@ -2,7 +2,7 @@
 use Prim.Native.Nat.{ℕ}
 use mathlib.Core.Path.{ap, _∙_}
 use Rattle.cells.specs.InPlace.{spotFrom, holdsIndex}
-use Rattle.cells.specs.OfHeld.{here-links, here-some}
+use Rattle.cells.specs.OfHeldLaws.{here-links, here-some}
 use borrow.Author.Needs.{needs}
 use Rattle.cells.proofs.pieces.has_piece.Statement.{statement}
 use Rattle.cells.proofs.pieces.has_piece.Tie as tie

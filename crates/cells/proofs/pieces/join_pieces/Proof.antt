@@ -8,7 +8,7 @@ use Rattle.machine.specs.Layout.{readCells}
 use Rattle.machine.specs.Sound.{sizes}
 use Rattle.machine.specs.Pieces.{joined}
 use Rattle.store.specs.HeldAt.{recIn}
-use Rattle.cells.specs.OfHeld.{cells-here, here-links}
+use Rattle.cells.specs.OfHeldLaws.{cells-here, here-links}
 use borrow.Author.Needs.{needs}
 use Rattle.cells.proofs.pieces.join_pieces.Statement.{statement}
 use Rattle.cells.proofs.pieces.join_pieces.Tie as tie

@@ -5,7 +5,7 @@ use mathlib.Core.Path.{refl, sym, ap, _∙_}
 use lib.ListN.{getD}
 use lib.Dec.{eqb}
 use Rattle.octets.specs.Bools.{one}
-use Rattle.cells.specs.Read.{piece-state}
+use Rattle.cells.specs.ReadLaws.{piece-state}
 use Rattle.cells.proofs.Walks.{Met, met, Adding, added-end, added-out, added-more, stateCount, stateOne, state-more}
 use Rattle.cells.proofs.walk.count.Statement.{statement}
 use Rattle.cells.proofs.walk.count.Tie as tie

@@ -5,7 +5,7 @@ use native.Mathlib.Omega.{arith}
 use mathlib.Core.Path.{_≡_, refl, ap, _∙_}
 use lib.ListN.{getD}
 use Rattle.machine.specs.Layout.{countAt, cellOff}
-use Rattle.cells.specs.Read.{cells-end, cells-out}
+use Rattle.cells.specs.ReadLaws.{cells-end, cells-out}
 use Rattle.cells.proofs.Walks.{Met, met, Joining, joining-done, joining-fits, joining-more}
 use Rattle.cells.proofs.walk.join.Statement.{statement}
 use Rattle.cells.proofs.walk.join.Tie as tie

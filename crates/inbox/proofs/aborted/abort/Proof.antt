@@ -1,7 +1,7 @@
 -- Assumes nothing.
 use native.Mathlib.Omega.{arith}
 use Rattle.machine.specs.Codes.{roleReceive}
-use Rattle.store.specs.Refuse.{refused, done}
+use Rattle.store.specs.RefuseLaws.{refused, done}
 use Rattle.inbox.proofs.Aborts.{none-stop, held, here, dropped}
 use borrow.Author.Needs.{needs}
 use Rattle.inbox.proofs.aborted.abort.Statement.{statement}

@@ -2,7 +2,7 @@
 use native.Mathlib.Omega.{arith}
 use mathlib.Core.Path.{sym, ap, _∙_}
 use lib.ListN.{length}
-use Rattle.store.specs.Refuse.{refused, done}
+use Rattle.store.specs.RefuseLaws.{refused, done}
 use Rattle.inbox.proofs.Chunks.{number-is, here, low-index, has-room, kept, piece-fits}
 use borrow.Author.Needs.{needs}
 use Rattle.inbox.proofs.chunk.chunk.Statement.{statement}

@@ -2,7 +2,7 @@
 use native.Mathlib.Omega.{arith}
 use mathlib.Core.Path.{sym, _∙_}
 use borrow.Author.Tests.{not-true, not-false}
-use Rattle.store.specs.Met.{searched-inside, searched-held, here-fine, here-reached}
+use Rattle.store.specs.MetLaws.{searched-inside, searched-held, here-fine, here-reached}
 use Rattle.inbox.proofs.Chunks.{none-stop, past-stop, high-stop, short-stop, full-stop, all-done, total-is, inside-told, low-told, high-told, short-told}
 use borrow.Author.Needs.{needs}
 use Rattle.inbox.proofs.chunk.refusal.Statement.{statement}

@@ -1,6 +1,6 @@
 -- Assumes nothing.
 use mathlib.Core.Path.{sym, _∙_}
-use Rattle.store.specs.Refuse.{refused, done}
+use Rattle.store.specs.RefuseLaws.{refused, done}
 use Rattle.inbox.proofs.Dones.{number-is, here, complete, finished}
 use borrow.Author.Needs.{needs}
 use Rattle.inbox.proofs.done.done.Statement.{statement}

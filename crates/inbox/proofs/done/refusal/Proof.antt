@@ -3,7 +3,7 @@ use native.Mathlib.Omega.{arith}
 use mathlib.Core.Path.{sym, _∙_}
 use borrow.Author.Tests.{not-true, not-false}
 use Rattle.machine.specs.Codes.{roleReceive}
-use Rattle.store.specs.Met.{searched-inside, searched-held, here-fine, here-reached}
+use Rattle.store.specs.MetLaws.{searched-inside, searched-held, here-fine, here-reached}
 use Rattle.inbox.proofs.Dones.{none-stop, count-stop, gap-stop, total-stop, sum-stop, key-stop, all-done, total-is}
 use Rattle.inbox.proofs.done.refusal.Statement.{statement}
 use Rattle.inbox.proofs.done.refusal.Tie as tie

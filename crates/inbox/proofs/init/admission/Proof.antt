@@ -1,6 +1,6 @@
 -- Assumes nothing.
 use mathlib.Core.Path.{sym, ap, _∙_}
-use Rattle.topic.specs.Admission.{numberOf}
+use Rattle.machine.specs.Rules.{numberOf}
 use borrow.Author.Needs.{needs}
 use Rattle.inbox.proofs.init.admission.Statement.{statement}
 use Rattle.inbox.proofs.init.admission.Tie as tie

@@ -1,9 +1,9 @@
 -- Assumes nothing.
 use mathlib.Core.Path.{sym, _∙_}
-use Rattle.store.specs.Refuse.{refused, done}
+use Rattle.store.specs.RefuseLaws.{refused, done}
 use Rattle.inbox.proofs.Starts.{startable}
 use borrow.Author.Needs.{needs}
-use Rattle.machine.specs.Calls.{arrival}
+use Rattle.machine.specs.Packet.{arrival}
 use Rattle.inbox.proofs.init.init.Statement.{statement}
 use Rattle.inbox.proofs.init.init.Tie as tie
 

@@ -3,7 +3,7 @@ use mathlib.Core.Path.{sym, _∙_}
 use Rattle.inbox.proofs.Inits.{rules-stop, whole-stop, long-stop, held-done, free-done, none-stop, told, told-le, told-lt}
 use Rattle.machine.specs.Values.{Store}
 use Rattle.machine.specs.Layout.{decode}
-use Rattle.machine.specs.Calls.{Packet, arrival}
+use Rattle.machine.specs.Packet.{Packet, arrival}
 use borrow.Author.Needs.{needs}
 use Rattle.inbox.proofs.init.refusal.Statement.{statement}
 use Rattle.inbox.proofs.init.refusal.Tie as tie

@@ -3,7 +3,8 @@ use Prim.Native.Nat.{ℕ}
 use mathlib.Core.Path.{sym, ap, _∙_}
 use mathlib.Core.List.{List}
 use Rattle.packet.specs.Frame.{has, replyFlag}
-use Rattle.topic.specs.Admission.{admissionOf, numberOf}
+use Rattle.topic.specs.Admission.{admissionOf}
+use Rattle.machine.specs.Rules.{numberOf}
 use Rattle.inbox.proofs.Inits.{book-is, reply-skips, book-read}
 use borrow.Author.Needs.{needs}
 use Rattle.inbox.proofs.init.rules_refusal.Statement.{statement}

@@ -3,12 +3,11 @@ use Prim.Native.Nat.{ℕ}
 use native.Mathlib.Omega.{arith}
 use mathlib.Core.Path.{refl, ap}
 use lib.ListN.{length}
-use Rattle.machine.specs.Layout.{wholeAt}
+use Rattle.machine.specs.Layout.{wholeAt, readCells}
 use Rattle.links.specs.InRange.{links}
 use Rattle.machine.specs.Codes.{roleReceive}
-use Rattle.machine.specs.Layout.{readCells}
 use Rattle.machine.specs.Sound.{sizes}
-use Rattle.inbox.specs.Oldest.{oldest-placed, oldest-first, oldest-pieces, oldest-sizes}
+use Rattle.inbox.specs.OldestLaws.{oldest-placed, oldest-first, oldest-pieces, oldest-sizes}
 use Rattle.inbox.proofs.Takes.{row-short, message-is}
 use borrow.Author.Needs.{needs}
 use Rattle.inbox.proofs.take.put_message.Statement.{statement}

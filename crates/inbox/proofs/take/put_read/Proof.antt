@@ -2,7 +2,7 @@
 use native.Mathlib.Omega.{arith}
 use mathlib.Core.Path.{ap, _∙_}
 use lib.ListN.{length}
-use Rattle.inbox.specs.Oldest.{oldest-placed, oldest-head}
+use Rattle.inbox.specs.OldestLaws.{oldest-placed, oldest-head}
 use Rattle.inbox.proofs.Takes.{read-is}
 use borrow.Author.Needs.{needs}
 use Rattle.inbox.proofs.take.put_read.Statement.{statement}

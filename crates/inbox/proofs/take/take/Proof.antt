@@ -2,8 +2,8 @@
 use native.Mathlib.Omega.{arith}
 use Rattle.machine.specs.Codes.{roleReceive}
 use Rattle.links.specs.InRange.{links}
-use Rattle.store.specs.Established.{takable}
-use Rattle.inbox.specs.Oldest.{oldest-placed, oldest-fine, total-is}
+use Rattle.store.specs.EstablishedLaws.{takable}
+use Rattle.inbox.specs.OldestLaws.{oldest-placed, oldest-fine, total-is}
 use Rattle.inbox.proofs.Taken.{none-out, run-out, data-out, taken-out}
 use borrow.Author.Needs.{needs}
 use Rattle.inbox.proofs.take.take.Statement.{statement}

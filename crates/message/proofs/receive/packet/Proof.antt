@@ -1,9 +1,9 @@
--- The refusals in document 01's order, then the step and its reply. Assumes nothing.
+-- The refusals in their order, then the step and its reply. Assumes nothing.
 use mathlib.Core.Path.{sym, ap, _∙_}
 use lib.ListN.{length}
 use borrow.Author.Tests.{not-true, not-false}
 use Rattle.octets.specs.Octets.{put}
-use Rattle.machine.specs.Calls.{Packet, kind, packetOf, arrival}
+use Rattle.machine.specs.Packet.{Packet, kind, packetOf, arrival}
 use Rattle.message.proofs.Steps.{same-out}
 use Rattle.message.proofs.Packets.{recv-out, send-out, frame-out, kind-out, room-out, step-out, done-out}
 use borrow.Author.Needs.{needs}

@@ -1,7 +1,7 @@
 -- Assumes nothing.
 use mathlib.Core.Path.{sym, _∙_}
 use borrow.Author.Tests.{not-true, not-false}
-use Rattle.machine.specs.Calls.{Push, pushOf, pushed}
+use Rattle.machine.specs.Push.{Push, pushOf, pushed}
 use Rattle.message.proofs.Sends.{push-unsound, push-sound}
 use borrow.Author.Needs.{needs}
 use Rattle.message.proofs.send.push.Statement.{statement}

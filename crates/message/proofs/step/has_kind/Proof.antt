@@ -1,6 +1,6 @@
 -- Assumes nothing.
 use mathlib.Core.Path.{sym, ap, _∙_}
-use Rattle.machine.specs.Calls.{isKind}
+use Rattle.machine.specs.Packet.{isKind}
 use borrow.Author.Needs.{needs}
 use Rattle.message.proofs.step.has_kind.Statement.{statement}
 use Rattle.message.proofs.step.has_kind.Tie as tie

@@ -1,7 +1,7 @@
 -- Assumes nothing.
 use mathlib.Core.Path.{sym, ap, _∙_}
 use borrow.Author.Needs.{needs}
-use Rattle.machine.specs.Calls.{replyBytes}
+use Rattle.machine.specs.Packet.{replyBytes}
 use Rattle.message.proofs.step.reply_bytes.Statement.{statement}
 use Rattle.message.proofs.step.reply_bytes.Tie as tie
 

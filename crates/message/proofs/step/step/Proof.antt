@@ -1,6 +1,6 @@
 -- One arm for each kind. Assumes nothing.
 use mathlib.Core.Path.{sym, _∙_}
-use Rattle.machine.specs.Calls.{Packet, arrival}
+use Rattle.machine.specs.Packet.{Packet, arrival}
 use Rattle.message.proofs.Steps.{init-arm, chunk-arm, done-arm, read-arm, aborted-arm, ackInit-arm, ackChunk-arm, ackDone-arm, nothing-arm}
 use borrow.Author.Needs.{needs}
 use Rattle.message.proofs.step.step.Statement.{statement}

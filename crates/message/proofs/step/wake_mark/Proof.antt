@@ -1,6 +1,6 @@
 -- Assumes nothing.
 use mathlib.Core.Path.{sym, ap, _∙_}
-use Rattle.machine.specs.Calls.{kindWake}
+use Rattle.machine.specs.Packet.{kindWake}
 use borrow.Author.Needs.{needs}
 use Rattle.message.proofs.step.wake_mark.Statement.{statement}
 use Rattle.message.proofs.step.wake_mark.Tie as tie

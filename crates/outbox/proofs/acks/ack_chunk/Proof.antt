@@ -3,8 +3,8 @@ use native.Mathlib.Omega.{arith}
 use mathlib.Core.Path.{refl}
 use Rattle.machine.specs.Codes.{roleSend}
 use Rattle.machine.specs.Send.{ackPiece}
-use Rattle.machine.specs.Calls.{ackChunkRow}
-use Rattle.store.specs.Refuse.{refused, done}
+use Rattle.machine.specs.Packet.{ackChunkRow}
+use Rattle.store.specs.RefuseLaws.{refused, done}
 use Rattle.outbox.proofs.Sought.{unknown, known, known-held, known-reached, known-key}
 use Rattle.outbox.proofs.States.{not-in-progress, no-piece, some-piece, at-key, acked-is}
 use borrow.Author.Needs.{needs}

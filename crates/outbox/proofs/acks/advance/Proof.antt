@@ -2,8 +2,8 @@
 use native.Mathlib.Omega.{arith}
 use mathlib.Core.Path.{refl}
 use Rattle.machine.specs.Send.{withState}
-use Rattle.machine.specs.Calls.{stateRow}
-use Rattle.store.specs.Refuse.{refused, done}
+use Rattle.machine.specs.Packet.{stateRow}
+use Rattle.store.specs.RefuseLaws.{refused, done}
 use Rattle.outbox.proofs.Sought.{unknown, known, known-held, known-reached, known-key}
 use Rattle.outbox.proofs.States.{wrong-state, right-state, at-key}
 use borrow.Author.Needs.{needs}

@@ -1,6 +1,6 @@
 -- Assumes nothing.
 use Rattle.machine.specs.Codes.{roleSend}
-use Rattle.outbox.specs.Here.{here}
+use Rattle.outbox.specs.HereLaws.{here}
 use Rattle.outbox.proofs.Deadlines.{deadline-dropped, deadline-marked}
 use borrow.Author.Needs.{needs}
 use Rattle.outbox.proofs.deadline.deadline_wake.Statement.{statement}

@@ -3,11 +3,11 @@ use Prim.Native.Nat.{ℕ, _≤_, _-_}
 use native.Mathlib.Omega.{arith}
 use mathlib.Core.Path.{_≡_, ap, _∙_}
 use lib.ListN.{length, getD}
-use Rattle.octets.specs.Octets.{Bytes, pow}
+use Rattle.octets.specs.Octets.{Bytes, capacity}
 use Rattle.machine.specs.Typed.{TypedClock}
 use Rattle.machine.specs.Codes.{roleSend}
 use Rattle.cells.specs.InPlace.{CellIn}
-use Rattle.cells.specs.Read.{cell-in}
+use Rattle.cells.specs.ReadLaws.{cell-in}
 use Rattle.outbox.specs.Sending.{Turn}
 use Rattle.outbox.proofs.Going.{Going, going-start, going-long, going-turn, going-more, going-done, going-out}
 use Rattle.outbox.proofs.due.send_due.Statement.{statement}
@@ -24,7 +24,7 @@ bytes : (c : tie.After-slice-known Inv-loop μ-loop) → Bytes (c .before .args 
 bytes c i = c .slice-known .given i .fits
 
 typed : (c : tie.After-slice-known Inv-loop μ-loop) → TypedClock (c .before .args .clock)
-unfolding pow
+unfolding capacity
 typed c = omega (arith, c .before .fits .clock)
 
 first-cell-requires : tie.Need-first-cell-requires Inv-loop μ-loop

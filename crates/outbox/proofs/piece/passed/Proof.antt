@@ -4,7 +4,7 @@ use Prim.Native.Nat.{_+_, _-_}
 use mathlib.Core.Path.{sym}
 use lib.Dec.{leb}
 use borrow.Author.Tests.{leb-true, le-leb, lt-leb}
-use Rattle.octets.specs.Bools.{iff}
+use Rattle.octets.specs.BoolsLaws.{iff}
 use Rattle.outbox.proofs.piece.passed.Statement.{statement}
 use Rattle.outbox.proofs.piece.passed.Tie as tie
 

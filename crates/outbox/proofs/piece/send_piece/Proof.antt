@@ -1,6 +1,6 @@
 -- Assumes nothing.
 use borrow.Author.Needs.{needs}
-use Rattle.cells.specs.Read.{cell-in}
+use Rattle.cells.specs.ReadLaws.{cell-in}
 use Rattle.outbox.proofs.Pieces.{sent-is, kept-is}
 use Rattle.outbox.proofs.piece.send_piece.Statement.{statement}
 use Rattle.outbox.proofs.piece.send_piece.Tie as tie

@@ -3,7 +3,7 @@ use mathlib.Core.Path.{_∙_}
 use lib.Dec.{leb}
 use Rattle.machine.specs.Codes.{roleSend}
 use Rattle.links.specs.InRange.{links}
-use Rattle.cells.specs.Cutting.{free-count}
+use Rattle.cells.specs.CuttingLaws.{free-count}
 use borrow.Author.Needs.{needs}
 use Rattle.outbox.proofs.push.has_cells.Statement.{statement}
 use Rattle.outbox.proofs.push.has_cells.Tie as tie

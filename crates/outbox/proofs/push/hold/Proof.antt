@@ -1,10 +1,10 @@
 -- Assumes nothing.
 use native.Mathlib.Omega.{arith}
 use mathlib.Core.Path.{sym, subst}
-use Rattle.octets.specs.Bools.{one-le}
+use Rattle.octets.specs.BoolsLaws.{one-le}
 use Rattle.store.specs.Opening.{Openable}
-use Rattle.store.specs.Opened.{head-fine}
-use Rattle.outbox.specs.Pushed.{cut-openable, push-opened}
+use Rattle.store.specs.OpenedLaws.{head-fine}
+use Rattle.outbox.specs.PushedLaws.{cut-openable, push-opened}
 use Rattle.outbox.proofs.Pushes.{wide}
 use borrow.Author.Needs.{needs}
 use Rattle.outbox.proofs.push.hold.Statement.{statement}

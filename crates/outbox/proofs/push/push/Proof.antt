@@ -7,7 +7,8 @@ use Rattle.machine.specs.Values.{Store}
 use Rattle.machine.specs.Layout.{decode}
 use Rattle.machine.specs.Refusals.{refusal}
 use Rattle.machine.specs.Send.{pushStep, initOut}
-use Rattle.machine.specs.Calls.{Push, yes, pushHead, pushed, pushTests}
+use Rattle.machine.specs.Codes.{yes}
+use Rattle.machine.specs.Push.{Push, pushLabel, pushed, pushTests}
 use Rattle.outbox.proofs.Sent.{refused-out, sent-out}
 use Rattle.outbox.proofs.Pushes.{push-end, push-room, pushable, init-put, init-long}
 use borrow.Author.Needs.{needs}
@@ -22,12 +23,12 @@ abbrev way : tie.Start → ℕ
 way s = refusal (pushTests (what s) (decode (s .args .send .now)) (length (s .args .run .now)))
 
 abbrev step : tie.Start → Store
-step s = pushStep (pushHead (what s)) (s .args .created) (s .args .created + s .args .try-ms) (s .args .bytes .now) (decode (s .args .send .now))
+step s = pushStep (pushLabel (what s)) (s .args .created) (s .args .created + s .args .try-ms) (s .args .bytes .now) (decode (s .args .send .now))
 
 returns : tie.Need-returns
 returns c =
     let start = c .before .before .before .before .before .before .before .before .before .before .before in
-    refused-out (way start) (step start) (initOut (pushHead (what start))) _ _ _ _ _ _ (c .before .before .refusal .ensures) (c .before .if1 .taken) (c .refuse .ensures .0) (c .refuse .ensures .1) (c .refuse .ensures .2)
+    refused-out (way start) (step start) (initOut (pushLabel (what start))) _ _ _ _ _ _ (c .before .before .refusal .ensures) (c .before .if1 .taken) (c .refuse .ensures .0) (c .refuse .ensures .1) (c .refuse .ensures .2)
 
 add-hold : tie.Need-add-hold
 add-hold c =
@@ -60,7 +61,7 @@ returns-2 c =
     let else-1 = hold .before .before in
     let at-refusal = else-1 .before in
     let start = at-refusal .before .before .before .before .before .before .before .before .before in
-    sent-out (way start) (step start) (initOut (pushHead (what start))) _ _ _ _ _ _ _ (sym (sym (at-refusal .refusal .ensures) ∙ else-1 .if1 .left)) (c .sent .ensures .0) (c .sent .ensures .1 ∙ init-long (what start) (start .pre .1) (start .pre .2) (start .pre .3)) (c .sent .ensures .2) (hold .hold .ensures) (init-put (what start) _ _ (c .before .before .before .put-init .ensures))
+    sent-out (way start) (step start) (initOut (pushLabel (what start))) _ _ _ _ _ _ _ (sym (sym (at-refusal .refusal .ensures) ∙ else-1 .if1 .left)) (c .sent .ensures .0) (c .sent .ensures .1 ∙ init-long (what start) (start .pre .1) (start .pre .2) (start .pre .3)) (c .sent .ensures .2) (hold .hold .ensures) (init-put (what start) _ _ (c .before .before .before .put-init .ensures))
 
 pub push-spec : {M : Type 1} → statement M
 push-spec =

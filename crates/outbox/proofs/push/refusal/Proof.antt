@@ -3,7 +3,7 @@ use native.Mathlib.Omega.{arith}
 use mathlib.Core.List.{[]}
 use borrow.Author.Tests.{not-true, not-false}
 use Rattle.machine.specs.Layout.{decode}
-use Rattle.machine.specs.Calls.{Push, pushed}
+use Rattle.machine.specs.Push.{Push, pushed}
 use Rattle.outbox.proofs.Pushes.{push-short, push-topic, push-long, push-clock, push-held, push-full, push-cells, push-clear}
 use borrow.Author.Needs.{needs}
 use Rattle.outbox.proofs.push.refusal.Statement.{statement}

@@ -1,6 +1,6 @@
 -- Assumes nothing.
 use Rattle.machine.specs.Codes.{roleSend}
-use Rattle.store.specs.Met.{here-reached}
+use Rattle.store.specs.MetLaws.{here-reached}
 use Rattle.outbox.proofs.Reports.{none-counted, some-counted}
 use borrow.Author.Needs.{needs}
 use Rattle.outbox.proofs.report.counted.Statement.{statement}

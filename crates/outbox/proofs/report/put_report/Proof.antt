@@ -3,7 +3,7 @@ use native.Mathlib.Omega.{arith}
 use mathlib.Core.Path.{ap, _∙_}
 use lib.ListN.{length}
 use Rattle.machine.specs.Codes.{roleSend}
-use Rattle.store.specs.Met.{here-reached, here-sized}
+use Rattle.store.specs.MetLaws.{here-reached, here-sized}
 use Rattle.outbox.proofs.Reports.{destination-long, report-is}
 use borrow.Author.Needs.{needs}
 use Rattle.outbox.proofs.report.put_report.Statement.{statement}
@@ -22,7 +22,7 @@ copy-in-requires : tie.Need-copy-in-requires
 copy-in-requires c κs =
     let slice = c .before .before .before .before .before .before .before in
     let start = slice .before in
-    omega (arith, ap length (c .destination .ensures) ∙ destination-long _ _ (here-sized roleSend _ (λ i. slice .shared-slice-known .given i .fits) _ (start .pre .0) .head), start .pre .1)
+    omega (arith, ap length (c .destination .ensures) ∙ destination-long _ _ (here-sized roleSend _ (λ i. slice .shared-slice-known .given i .fits) _ (start .pre .0) .label), start .pre .1)
 
 created-requires : tie.Need-created-requires
 created-requires c κs =
@@ -65,7 +65,7 @@ returns c =
     let state = counted .before in
     let slice = state .before .before in
     let start = slice .before in
-    report-is _ _ (here-sized roleSend _ (λ i. slice .shared-slice-known .given i .fits) _ (start .pre .0) .head) _ _ _ _ _ _ _ _ _ _ _ _ _ _ (start .pre .1) (destination .destination .ensures) (state .state .ensures) (counted .counted .ensures) (counted2 .counted2 .ensures) (counted3 .counted3 .ensures) (created .created .ensures) (at-end .end .ensures) (c .before .before .before .total .ensures) (copy-in .copy-in .ensures) (copy-in2 .copy-in2 .ensures) (put64 .put64 .ensures) (put642 .put642 .ensures) (c .before .before .put643 .ensures)
+    report-is _ _ (here-sized roleSend _ (λ i. slice .shared-slice-known .given i .fits) _ (start .pre .0) .label) _ _ _ _ _ _ _ _ _ _ _ _ _ _ (start .pre .1) (destination .destination .ensures) (state .state .ensures) (counted .counted .ensures) (counted2 .counted2 .ensures) (counted3 .counted3 .ensures) (created .created .ensures) (at-end .end .ensures) (c .before .before .before .total .ensures) (copy-in .copy-in .ensures) (copy-in2 .copy-in2 .ensures) (put64 .put64 .ensures) (put642 .put642 .ensures) (c .before .before .put643 .ensures)
 
 pub put-report-spec : {M : Type 1} → statement M
 put-report-spec =

@@ -2,7 +2,7 @@
 use mathlib.Core.Path.{refl}
 use Rattle.machine.specs.Layout.{decode}
 use Rattle.machine.specs.Receive.{found}
-use Rattle.machine.specs.Calls.{heldRow}
+use Rattle.machine.specs.Refusals.{heldRow}
 use Rattle.outbox.proofs.Sought.{unknown, known, known-held}
 use Rattle.outbox.proofs.Reports.{report-short, report-unknown, report-done}
 use borrow.Author.Needs.{needs}

@@ -2,8 +2,9 @@
 use mathlib.Core.Path.{sym, _∙_}
 use borrow.Author.Needs.{needs}
 use Rattle.octets.specs.Octets.{Bytes}
-use Rattle.outbox.specs.Here.{Here, here}
-use Rattle.outbox.specs.Woken.{progress-done, progress-due}
+use Rattle.outbox.specs.HereLaws.{here}
+use Rattle.outbox.specs.Leaves.{Here}
+use Rattle.outbox.specs.WokenLaws.{progress-done, progress-due}
 use Rattle.outbox.proofs.wake.progress.Statement.{statement}
 use Rattle.outbox.proofs.wake.progress.Tie as tie
 

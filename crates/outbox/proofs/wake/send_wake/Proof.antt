@@ -4,9 +4,10 @@ use borrow.Author.Needs.{needs}
 use Rattle.octets.specs.Octets.{Bytes}
 use Rattle.machine.specs.Values.{Sending}
 use Rattle.store.specs.HeldAt.{recIn}
-use Rattle.store.specs.Met.{rec-sending}
-use Rattle.outbox.specs.Here.{Here, here}
-use Rattle.outbox.specs.Woken.{woke-late, woke-init, woke-progress, woke-settled}
+use Rattle.store.specs.MetLaws.{rec-sending}
+use Rattle.outbox.specs.HereLaws.{here}
+use Rattle.outbox.specs.Leaves.{Here}
+use Rattle.outbox.specs.WokenLaws.{woke-late, woke-init, woke-progress, woke-settled}
 use Rattle.outbox.proofs.wake.send_wake.Statement.{statement}
 use Rattle.outbox.proofs.wake.send_wake.Tie as tie
 

@@ -10,7 +10,8 @@ use Rattle.octets.specs.Octets.{put}
 use Rattle.machine.specs.Values.{Rec, Store}
 use Rattle.machine.specs.Layout.{decode}
 use Rattle.machine.specs.Receive.{found}
-use Rattle.machine.specs.Calls.{heldRow, wakeRun, wakeStep}
+use Rattle.machine.specs.Refusals.{heldRow}
+use Rattle.machine.specs.Wake.{wakeRun, wakeStep}
 use Rattle.outbox.proofs.Sought.{unknown, known, known-held, known-key}
 use Rattle.outbox.proofs.Sent.{refused-out, sent-out}
 use Rattle.outbox.proofs.Wakings.{row, no-kind, short-run, long-run, is-held, run-is, step-is}

@@ -1,6 +1,6 @@
 -- Assumes nothing.
 use Rattle.packet.proofs.Writes.{entry-is}
-use Rattle.packet.specs.Lengths.{length-chunk}
+use Rattle.packet.specs.LengthsLaws.{length-chunk}
 use borrow.Author.Needs.{needs}
 use Rattle.packet.proofs.run.put_chunk.Statement.{statement}
 use Rattle.packet.proofs.run.put_chunk.Tie as tie

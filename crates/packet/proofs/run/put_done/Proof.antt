@@ -1,6 +1,6 @@
 -- Assumes nothing.
 use Rattle.packet.proofs.Writes.{entry-is}
-use Rattle.packet.specs.Lengths.{length-done}
+use Rattle.packet.specs.LengthsLaws.{length-done}
 use borrow.Author.Needs.{needs}
 use Rattle.packet.proofs.run.put_done.Statement.{statement}
 use Rattle.packet.proofs.run.put_done.Tie as tie

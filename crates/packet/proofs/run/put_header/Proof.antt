@@ -1,6 +1,6 @@
 -- Assumes nothing.
 use Rattle.packet.proofs.Writes.{entry-is}
-use Rattle.packet.specs.Lengths.{length-header}
+use Rattle.packet.specs.LengthsLaws.{length-header}
 use borrow.Author.Needs.{needs}
 use Rattle.packet.proofs.run.put_header.Statement.{statement}
 use Rattle.packet.proofs.run.put_header.Tie as tie

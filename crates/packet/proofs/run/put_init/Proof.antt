@@ -1,6 +1,6 @@
 -- Assumes nothing.
 use Rattle.packet.proofs.Writes.{entry-is}
-use Rattle.packet.specs.Lengths.{length-init}
+use Rattle.packet.specs.LengthsLaws.{length-init}
 use borrow.Author.Needs.{needs}
 use Rattle.packet.proofs.run.put_init.Statement.{statement}
 use Rattle.packet.proofs.run.put_init.Tie as tie

@@ -2,7 +2,7 @@
 use native.Mathlib.Omega.{arith}
 use Rattle.octets.specs.Octets.{part}
 use Rattle.packet.proofs.Writes.{entry-is, reply-is}
-use Rattle.packet.specs.Lengths.{length-reply}
+use Rattle.packet.specs.LengthsLaws.{length-reply}
 use borrow.Author.Needs.{needs}
 use Rattle.packet.proofs.run.put_reply.Statement.{statement}
 use Rattle.packet.proofs.run.put_reply.Tie as tie

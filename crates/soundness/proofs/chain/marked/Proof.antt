@@ -5,7 +5,7 @@ use native.Mathlib.Nat.{sub-zero}
 use native.Mathlib.Omega.{arith}
 use borrow.Author.Needs.{needs}
 use borrow.Author.Tests.{not-true, not-false}
-use Rattle.octets.specs.Parts.{part-of}
+use Rattle.octets.specs.PartsLaws.{part-of}
 use Rattle.machine.specs.Chains.{link, walk}
 use Rattle.laws.specs.Marks.{scan, walk-end, walk-far, walk-twice, walk-bad, walk-more, walk-out}
 use Rattle.rows.specs.Asked.{rowFits}

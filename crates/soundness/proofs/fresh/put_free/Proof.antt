@@ -2,7 +2,7 @@
 use native.Mathlib.Omega.{arith}
 use mathlib.Core.Path.{refl}
 use mathlib.Core.List.{[], _∷_}
-use Rattle.octets.specs.Parts.{more}
+use Rattle.octets.specs.PartsLaws.{more}
 use borrow.Author.Needs.{needs}
 use Rattle.soundness.proofs.fresh.put_free.Statement.{statement}
 use Rattle.soundness.proofs.fresh.put_free.Tie as tie

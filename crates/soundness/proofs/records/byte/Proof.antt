@@ -2,7 +2,7 @@
 use Prim.Native.Nat.{ℕ, _+_}
 use mathlib.Core.Path.{sym, ap, _∙_}
 use lib.ListN.{getD}
-use Rattle.octets.specs.Parts.{getD-part}
+use Rattle.octets.specs.PartsLaws.{getD-part}
 use borrow.Author.Needs.{needs}
 use Rattle.soundness.proofs.records.byte.Statement.{statement}
 use Rattle.soundness.proofs.records.byte.Tie as tie

@@ -1,6 +1,6 @@
 -- Assumes nothing.
 use Rattle.links.specs.InRange.{links}
-use Rattle.store.specs.Established.{held-inside}
+use Rattle.store.specs.EstablishedLaws.{held-inside}
 use Rattle.store.proofs.find.find_held.Statement.{statement}
 use Rattle.store.proofs.find.find_held.Tie as tie
 

@@ -1,7 +1,7 @@
 -- Assumes nothing.
 use native.Mathlib.Omega.{arith}
 use Rattle.links.specs.InRange.{links}
-use Rattle.store.specs.Established.{free-is}
+use Rattle.store.specs.EstablishedLaws.{free-is}
 use Rattle.store.proofs.find.is_free.Statement.{statement}
 use Rattle.store.proofs.find.is_free.Tie as tie
 

@@ -1,7 +1,7 @@
 -- Assumes nothing.
 use native.Mathlib.Omega.{arith}
 use Rattle.links.specs.InRange.{links}
-use Rattle.store.specs.Established.{freeCells-is}
+use Rattle.store.specs.EstablishedLaws.{freeCells-is}
 use Rattle.store.proofs.find.is_free_cell.Statement.{statement}
 use Rattle.store.proofs.find.is_free_cell.Tie as tie
 

@@ -3,7 +3,7 @@ use Prim.Native.Nat.{ℕ}
 use mathlib.Core.Path.{ap, _∙_}
 use lib.ListN.{getD}
 use lib.Dec.{ltb}
-use Rattle.store.specs.Established.{held-is}
+use Rattle.store.specs.EstablishedLaws.{held-is}
 use borrow.Author.Needs.{needs}
 use Rattle.store.proofs.find.is_held.Statement.{statement}
 use Rattle.store.proofs.find.is_held.Tie as tie

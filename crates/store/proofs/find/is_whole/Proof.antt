@@ -4,7 +4,7 @@ use mathlib.Core.Path.{ap, _∙_}
 use lib.ListN.{getD}
 use lib.Dec.{ltb}
 use Rattle.links.specs.InRange.{links}
-use Rattle.store.specs.Established.{whole-is, whole-inside}
+use Rattle.store.specs.EstablishedLaws.{whole-is, whole-inside}
 use Rattle.store.proofs.find.is_whole.Statement.{statement}
 use Rattle.store.proofs.find.is_whole.Tie as tie
 

@@ -2,8 +2,8 @@
 use native.Mathlib.Omega.{arith}
 use mathlib.Core.Path.{_∙_}
 use Rattle.machine.specs.Codes.{roleReceive}
-use Rattle.store.specs.Met.{here-links, here-reached}
-use Rattle.store.specs.Finished.{last-inside, finished-encode}
+use Rattle.store.specs.MetLaws.{here-links, here-reached}
+use Rattle.store.specs.FinishedLaws.{last-inside, finished-encode}
 use borrow.Author.Needs.{needs}
 use Rattle.store.proofs.finish.finish.Statement.{statement}
 use Rattle.store.proofs.finish.finish.Tie as tie

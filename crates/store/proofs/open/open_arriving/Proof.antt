@@ -1,7 +1,7 @@
 -- Assumes nothing.
 use borrow.Author.Needs.{needs}
-use Rattle.octets.specs.Bools.{one-le}
-use Rattle.store.specs.Opened.{head-fine, ready-opened}
+use Rattle.octets.specs.BoolsLaws.{one-le}
+use Rattle.store.specs.OpenedLaws.{head-fine, ready-opened}
 use Rattle.store.proofs.open.open_arriving.Statement.{statement}
 use Rattle.store.proofs.open.open_arriving.Tie as tie
 

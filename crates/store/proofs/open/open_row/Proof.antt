@@ -1,6 +1,6 @@
 -- The row is written, then the record is held. Assumes nothing.
 use borrow.Author.Needs.{needs}
-use Rattle.store.specs.Opened.{row-ready, row-opens}
+use Rattle.store.specs.OpenedLaws.{row-ready, row-opens}
 use Rattle.store.proofs.open.open_row.Statement.{statement}
 use Rattle.store.proofs.open.open_row.Tie as tie
 

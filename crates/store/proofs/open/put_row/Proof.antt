@@ -1,5 +1,5 @@
 -- Assumes nothing.
-use Rattle.store.specs.Opened.{row-written}
+use Rattle.store.specs.OpenedLaws.{row-written}
 use borrow.Author.Needs.{needs}
 use Rattle.store.proofs.open.put_row.Statement.{statement}
 use Rattle.store.proofs.open.put_row.Tie as tie

@@ -1,6 +1,6 @@
 -- Assumes nothing.
 use mathlib.Core.Path.{_∙_}
-use Rattle.store.specs.Dropped.{here-droppable, unlinked-drops}
+use Rattle.store.specs.DroppedLaws.{here-droppable, unlinked-drops}
 use borrow.Author.Needs.{needs}
 use Rattle.store.proofs.release.drop.Statement.{statement}
 use Rattle.store.proofs.release.drop.Tie as tie

@@ -2,7 +2,7 @@
 use native.Mathlib.Omega.{arith}
 use mathlib.Core.Path.{ap, _∙_}
 use Rattle.store.specs.Clearing.{clearFrom}
-use Rattle.store.specs.Released.{free-chain}
+use Rattle.store.specs.ReleasedLaws.{free-chain}
 use borrow.Author.Needs.{needs}
 use Rattle.store.proofs.release.release.Statement.{statement}
 use Rattle.store.proofs.release.release.Tie as tie

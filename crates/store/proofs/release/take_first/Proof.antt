@@ -1,6 +1,6 @@
 -- Assumes nothing.
 use mathlib.Core.Path.{_∙_}
-use Rattle.store.specs.Dropped.{unlinked-takes}
+use Rattle.store.specs.DroppedLaws.{unlinked-takes}
 use borrow.Author.Needs.{needs}
 use Rattle.store.proofs.release.take_first.Statement.{statement}
 use Rattle.store.proofs.release.take_first.Tie as tie

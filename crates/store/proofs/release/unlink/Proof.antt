@@ -1,5 +1,5 @@
 -- Assumes nothing.
-use Rattle.store.specs.Released.{unlink-loose}
+use Rattle.store.specs.ReleasedLaws.{unlink-loose}
 use Rattle.store.proofs.Releases.{unlinked-is}
 use borrow.Author.Needs.{needs}
 use Rattle.store.proofs.release.unlink.Statement.{statement}

@@ -1,10 +1,10 @@
 -- Assumes nothing.
 use borrow.Author.Needs.{needs}
-use Rattle.octets.specs.Bools.{one-le}
+use Rattle.octets.specs.BoolsLaws.{one-le}
 use Rattle.machine.specs.Codes.{roleReceive}
-use Rattle.store.specs.Met.{here-reached}
-use Rattle.store.specs.Opened.{head-fine}
-use Rattle.store.specs.Restarted.{restart-chain, restarted}
+use Rattle.store.specs.MetLaws.{here-reached}
+use Rattle.store.specs.OpenedLaws.{head-fine}
+use Rattle.store.specs.RestartedLaws.{restart-chain, restarted}
 use mathlib.Core.Path.{refl}
 use Rattle.store.proofs.restart.restart.Statement.{statement}
 use Rattle.store.proofs.restart.restart.Tie as tie

@@ -2,8 +2,8 @@
 use mathlib.Core.Path.{_∙_}
 use borrow.Author.Needs.{needs}
 use Rattle.machine.specs.Codes.{roleSend}
-use Rattle.store.specs.Met.{here-reached}
-use Rattle.store.specs.Restated.{state-set}
+use Rattle.store.specs.MetLaws.{here-reached}
+use Rattle.store.specs.RestatedLaws.{state-set}
 use Rattle.store.proofs.restate.set_state.Statement.{statement}
 use Rattle.store.proofs.restate.set_state.Tie as tie
 

@@ -2,8 +2,8 @@
 use mathlib.Core.Path.{_∙_}
 use borrow.Author.Needs.{needs}
 use Rattle.machine.specs.Codes.{roleSend}
-use Rattle.store.specs.Met.{here-reached}
-use Rattle.store.specs.Restated.{time-over}
+use Rattle.store.specs.MetLaws.{here-reached}
+use Rattle.store.specs.RestatedLaws.{time-over}
 use Rattle.store.proofs.restate.time_out.Statement.{statement}
 use Rattle.store.proofs.restate.time_out.Tie as tie
 

@@ -1,7 +1,7 @@
 -- Assumes nothing.
 use Prim.Native.Nat.{_+_}
 use native.Mathlib.Omega.{arith}
-use Rattle.octets.specs.Parts.{part-of}
+use Rattle.octets.specs.PartsLaws.{part-of}
 use borrow.Author.Needs.{needs}
 use Rattle.packet.proofs.chunk.MessageChunk.piece.Statement.{statement}
 use Rattle.packet.proofs.chunk.MessageChunk.piece.Tie as tie

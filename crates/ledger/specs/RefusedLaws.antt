@@ -1,0 +1,80 @@
+-- "Refusals change nothing" and carry run length and wake mark 0: what each call leaves where its number is not 0. Assumes nothing.
+use Prim.Native.Nat.{ℕ}
+use mathlib.Core.Path.{_≡_, refl, sym, _∙_}
+use mathlib.Core.Bool.{cond}
+use mathlib.Core.List.{List}
+use lib.ListN.{length}
+use lib.Dec.{eqb}
+use borrow.Author.Tests.{eqb-true, ne-eqb}
+use Rattle.octets.specs.BoolsLaws.{cases}
+use Rattle.machine.specs.Sound.{allowed}
+use Rattle.machine.specs.Refusals.{refusal}
+use Rattle.machine.specs.Outcomes.{PacketOutcome, SendOutcome, TakeOutcome}
+use Rattle.machine.specs.Setup.{setupOf}
+use Rattle.machine.specs.Packet.{Packet, packetRow, packetAnswer}
+use Rattle.machine.specs.Push.{Push, pushRow, pushAnswer}
+use Rattle.machine.specs.Wake.{wakeRow, wakeOf}
+use Rattle.machine.specs.Report.{reportRow, reportOf}
+use Rattle.machine.specs.Take.{takeRow, takeOf}
+use Rattle.ledger.specs.Run.{receive, send, Stores, Call, setup, packet, push, wake, report, takeWhole, answer, after}
+
+-- of an outcome that a row's number n decides, n is the number; so a number that is not 0 leaves what a refusal leaves
+number-is : {O : Type 0} (number : O → ℕ) (done kept : O) (n : ℕ) → number done ≡ 0 → number kept ≡ n → number (cond (eqb n 0) done kept) ≡ n
+number-is number done kept n z e = cases (eqb n 0) (λ h. rw h (z ∙ sym (eqb-true n 0 h))) (λ h. rw h e)
+
+module _ (store : List ℕ) (role : ℕ) where
+  pub setup-refused : (setupOf store role .number ≡ 0 → ⊥) → setupOf store role ≡ record { number = setupOf store role .number; run = 0; wake = 0; store = store }
+  unfolding setupOf
+  setup-refused h = cases (allowed (length store) role) (λ e. absurd (h (rw e))) (λ e. rw e)
+
+module _ (p : Packet) (recv send out : List ℕ) where
+  pub packet-number : packetAnswer p recv send out .number ≡ refusal (packetRow p recv send out)
+  packet-number = number-is (λ (o : PacketOutcome). o .number) _ _ (refusal (packetRow p recv send out)) refl refl
+
+  pub packet-refused : (packetAnswer p recv send out .number ≡ 0 → ⊥)
+      → packetAnswer p recv send out ≡ record { number = packetAnswer p recv send out .number; run = 0; wake = 0; recv = recv; send = send; out = out }
+  packet-refused h = rw (ne-eqb (refusal (packetRow p recv send out)) 0 (λ e. h (packet-number ∙ e)))
+
+module _ (p : Push) (send out : List ℕ) where
+  pub push-number : pushAnswer p send out .number ≡ refusal (pushRow p send out)
+  push-number = number-is (λ (o : SendOutcome). o .number) _ _ (refusal (pushRow p send out)) refl refl
+
+  pub push-refused : (pushAnswer p send out .number ≡ 0 → ⊥)
+      → pushAnswer p send out ≡ record { number = pushAnswer p send out .number; run = 0; wake = 0; send = send; out = out }
+  push-refused h = rw (ne-eqb (refusal (pushRow p send out)) 0 (λ e. h (push-number ∙ e)))
+
+module _ (send : List ℕ) (kind : ℕ) (id : List ℕ) (clock : ℕ) (out : List ℕ) where
+  pub wake-number : wakeOf send kind id clock out .number ≡ refusal (wakeRow kind id send out)
+  unfolding wakeOf
+  wake-number = number-is (λ (o : SendOutcome). o .number) _ _ (refusal (wakeRow kind id send out)) refl refl
+
+  pub wake-refused : (wakeOf send kind id clock out .number ≡ 0 → ⊥)
+      → wakeOf send kind id clock out ≡ record { number = wakeOf send kind id clock out .number; run = 0; wake = 0; send = send; out = out }
+  unfolding wakeOf
+  wake-refused h = rw (ne-eqb (refusal (wakeRow kind id send out)) 0 (λ e. h (wake-number ∙ e)))
+
+module _ (send id out : List ℕ) where
+  pub report-refused : (reportOf send id out .number ≡ 0 → ⊥) → reportOf send id out ≡ record { number = reportOf send id out .number; run = 0; wake = 0; out = out }
+  unfolding reportOf
+  report-refused h = rw (ne-eqb (refusal (reportRow send id out)) 0 h)
+
+module _ (recv taken out : List ℕ) where
+  pub take-number : takeOf recv taken out .number ≡ refusal (takeRow recv taken out)
+  unfolding takeOf
+  take-number = number-is (λ (o : TakeOutcome). o .number) _ _ (refusal (takeRow recv taken out)) refl refl
+
+  pub take-refused : (takeOf recv taken out .number ≡ 0 → ⊥)
+      → takeOf recv taken out ≡ record { number = takeOf recv taken out .number; run = 0; wake = 0; recv = recv; taken = taken; out = out }
+  unfolding takeOf
+  take-refused h = rw (ne-eqb (refusal (takeRow recv taken out)) 0 (λ e. h (take-number ∙ e)))
+
+-- so no refused call changes a store
+pub refused-stays : (c : Call) (s : Stores) → (answer c s ≡ 0 → ⊥) → after c s ≡ s
+unfolding answer after
+refused-stays (setup receive store role) s h = rw (ne-eqb (setupOf store role .number) 0 h)
+refused-stays (setup send store role) s h = rw (ne-eqb (setupOf store role .number) 0 h)
+refused-stays (packet p out) s h = let e = packet-refused p (s .recv) (s .send) out h in λ i. record { recv = e i .recv; send = e i .send }
+refused-stays (push p out) s h = λ i. record { recv = s .recv; send = push-refused p (s .send) out h i .send }
+refused-stays (wake kind id clock out) s h = λ i. record { recv = s .recv; send = wake-refused (s .send) kind id clock out h i .send }
+refused-stays (report id out) s h = refl
+refused-stays (takeWhole taken out) s h = λ i. record { recv = take-refused (s .recv) taken out h i .recv; send = s .send }

@@ -1,0 +1,177 @@
+-- A worked run of the tablet by computation, call by call: what is answered, what is put out, what the store becomes, and what a report says.
+--   A survey of 1,550 bytes is pushed, its init acknowledged; a wake sends both pieces; one is acknowledged, and a wake at 1,100 ms sends the other again;
+--   when both are acknowledged the wake sends the done; the done is acknowledged and the survey read. Sums stay as they are: they are not computed.
+--   In another run the deadline passes twice.
+use Prim.Native.Nat.{ℕ, _+_}
+use mathlib.Core.Path.{_≡_, refl}
+use mathlib.Core.Bool.{false, cond}
+use mathlib.Core.List.{List, [], _∷_, _++_}
+use mathlib.Core.Option.{Option}
+use lib.ListN.{replicate}
+use lib.Dec.{eqb}
+use Rattle.octets.specs.Octets.{part, be, num, capacity, same}
+use Rattle.blake3.specs.Tree.{blake3}
+use Rattle.packet.specs.Frame.{initFlag, chunkFlag, doneFlag, readFlag, ackFlag, kindOf}
+use Rattle.packet.specs.Outgoing.{entry, header, initPacket, chunkPacket, donePacket, abortedPacket}
+use Rattle.machine.specs.Codes.{roleReceive, roleSend, stateInit, stateInProgress, stateReceived, stateRead, stateAborted, pieceStarted, pieceSent, pieceAcked, wrongState, noSuchPiece, unknownId}
+use Rattle.machine.specs.Values.{Cell, Rec, Store, sameKey}
+use Rattle.machine.specs.Counting.{rise}
+use Rattle.machine.specs.Sound.{fresh}
+use Rattle.machine.specs.Find.{find, swap, without}
+use Rattle.machine.specs.Refusals.{refusal, heldRow}
+use Rattle.machine.specs.Pieces.{cutPieces, joined}
+use Rattle.machine.specs.Receive.{found, dropAt}
+use Rattle.machine.specs.Send.{changeAt, pushStep, initOut, dueOut, wakeOut, woken, deadlineOut, deadlineAt}
+use Rattle.machine.specs.Packet.{Packet, kind, kindRow, sendStep, kindWake}
+use Rattle.machine.specs.Push.{Push, pushLabel, pushRoom, pushTests}
+use Rattle.machine.specs.Wake.{sendWake, deadlineWake, wakeRun, wakeStep}
+use Rattle.machine.specs.Report.{reported}
+use Rattle.machine.specs.Samples.{id, frame, address, from}
+
+-- ---- what it hears and does
+
+-- acknowledgements of an init, a chunk and a done, and a read
+unfoldable pub ackInit : List ℕ
+ackInit = frame (header id (initFlag + ackFlag))
+
+unfoldable pub ackChunk : ℕ → List ℕ
+ackChunk index = frame (header id (chunkFlag + ackFlag) ++ be 8 index)
+
+unfoldable pub ackDone : List ℕ
+ackDone = frame (header id (doneFlag + ackFlag))
+
+unfoldable pub read : List ℕ
+read = frame (header id readFlag)
+
+-- what a call answers (number and wake mark), what it puts out, and the send store that it leaves
+pub record Told : Type 0 where
+  pub number : ℕ
+  pub wake : ℕ
+  pub out : List ℕ
+  pub send : Store
+
+-- by the number n of its row: mark, run and store where it is 0
+abbrev pub told : ℕ → ℕ → List ℕ → Store → Store → Told
+told n wake out new old = cond (eqb n 0) (record { number = 0; wake = wake; out = out; send = new }) (record { number = n; wake = 0; out = []; send = old })
+
+unfoldable pub pushes : Push → Store → Told
+pushes p s =
+    told (refusal (pushTests p s pushRoom)) 0 (initOut (pushLabel p)) (pushStep (pushLabel p) (p .created) (p .created + p .try) (p .bytes) s) s
+
+unfoldable pub hears : List ℕ → Store → Told
+hears f s =
+    let p : Packet = from f in
+    told (refusal (kindRow (kind p) p (fresh roleReceive 1) s)) (kindWake (kind p)) [] (sendStep (kind p) p s) s
+
+unfoldable pub wakes : ℕ → ℕ → Store → Told
+wakes kind clock s =
+    let o : Option Rec = found id (s .held) in
+    told (refusal (heldRow o)) 0 (wakeRun kind clock o) (wakeStep kind id clock s) s
+
+unfoldable pub reports : Store → List ℕ
+reports s = reported (found id (s .held))
+
+-- ---- the survey
+
+unfoldable pub office : List ℕ
+office = replicate 16 9
+
+unfoldable pub topic : List ℕ
+topic = 100 ∷ 117 ∷ []
+
+unfoldable pub piece0 : List ℕ
+piece0 = replicate 1300 3
+
+unfoldable pub piece1 : List ℕ
+piece1 = replicate 250 4
+
+-- created after 5,999 ms, to be tried for 2,001 ms: second 5 to second 8
+unfoldable pub survey : Push
+survey = record { id = id; reply = 0; from = address; to = office; topic = topic; bytes = piece0 ++ piece1; created = 5999; try = 2001 }
+
+-- ---- its store of three cells
+
+-- a piece in its cell, with stamp and state
+abbrev cell : ℕ → List ℕ → ℕ → ℕ → Cell
+cell index bytes stamp state = record { place = 1 + index; index = index; bytes = bytes; stamp = stamp; state = state }
+
+-- the survey in a state, timed out or not, with its two pieces
+abbrev holding : ℕ → ℕ → Cell → Cell → Store
+holding state late a b = record {
+  setup = record { cells = 3; role = roleSend };
+  free = rise 2 7;
+  held = record {
+    place = 1;
+    label = record { id = id; source = address; destination = office; reply = 0; total = 1550; topic = topic };
+    slots = 2;
+    sending = record { state = state; timedOut = late; created = 5999; end = 8000 };
+    cells = a ∷ b ∷ [];
+  } ∷ [];
+  whole = [];
+  freeCells = 3 ∷ [];
+}
+
+-- a call that is done
+abbrev answers : ℕ → List ℕ → Store → Told
+answers wake out s = record { number = 0; wake = wake; out = out; send = s }
+
+-- a call that is refused
+abbrev refuses : ℕ → Store → Told
+refuses n s = record { number = n; wake = 0; out = []; send = s }
+
+abbrev sends : List ℕ → List ℕ
+sends packet = entry address office packet
+
+-- what a report says in a state, with counts of Started, Sent and Acked
+abbrev says : ℕ → ℕ → ℕ → ℕ → List ℕ
+says state started sent acked = office ++ (state ∷ started ∷ sent ∷ acked ∷ []) ++ be 8 5 ++ be 8 8 ++ be 8 1550
+
+-- the store after the push, after the first wake, after the second, and when all is acknowledged
+abbrev pushed : ℕ → Store
+pushed state = holding state 0 (cell 0 piece0 0 pieceStarted) (cell 1 piece1 0 pieceStarted)
+
+abbrev sent : Store
+sent = holding stateInProgress 0 (cell 0 piece0 1000 pieceSent) (cell 1 piece1 1000 pieceSent)
+
+abbrev partly : ℕ → Store
+partly stamp = holding stateInProgress 0 (cell 0 piece0 stamp pieceSent) (cell 1 piece1 0 pieceAcked)
+
+abbrev acked : ℕ → Store
+acked state = holding state 0 (cell 0 piece0 0 pieceAcked) (cell 1 piece1 0 pieceAcked)
+
+-- ---- the runs
+
+-- push: the init goes out; before its acknowledgement a wake sends it again, and other acknowledgements are refused
+pub tablet-starts : (pushes survey (fresh roleSend 3) ≡ answers 0 (sends (initPacket id false 1550 topic)) (pushed stateInit))
+    × (wakes sendWake 900 (pushed stateInit) ≡ answers 0 (sends (initPacket id false 1550 topic)) (pushed stateInit))
+    × (reports (pushed stateInit) ≡ says stateInit 0 0 0) × (hears (ackChunk 0) (pushed stateInit) ≡ refuses wrongState (pushed stateInit))
+    × (hears ackInit (pushed stateInit) ≡ answers 1 [] (pushed stateInProgress)) × (hears ackInit (pushed stateInProgress) ≡ refuses wrongState (pushed stateInProgress))
+unfolding office topic piece0 piece1 survey id frame address ackInit ackChunk pushes hears wakes reports part be num same header kindOf sameKey rise find swap without refusal cutPieces changeAt pushStep wakeOut woken kindRow sendStep kindWake wakeRun wakeStep reported capacity
+tablet-starts = (refl, refl, refl, refl, refl, refl)
+
+-- wakes: both pieces; neither again after 99 ms; the one that is not acknowledged again after 100
+pub tablet-sends : (reports (pushed stateInProgress) ≡ says stateInProgress 2 0 0)
+    × (wakes sendWake 1000 (pushed stateInProgress) ≡ answers 0 (sends (chunkPacket id 0 0 piece0) ++ (sends (chunkPacket id 1 1300 piece1) ++ [])) sent)
+    × (reports sent ≡ says stateInProgress 0 2 0) × (wakes sendWake 1099 sent ≡ answers 0 [] sent) × (hears (ackChunk 2) sent ≡ refuses noSuchPiece sent)
+    × (hears (ackChunk 1) sent ≡ answers 1 [] (partly 1000)) × (reports (partly 1000) ≡ says stateInProgress 0 1 1)
+    × (wakes sendWake 1100 (partly 1000) ≡ answers 0 (sends (chunkPacket id 0 0 piece0) ++ []) (partly 1100))
+    × (hears (ackChunk 0) (partly 1100) ≡ answers 1 [] (acked stateInProgress))
+unfolding office topic piece0 piece1 id frame address ackChunk hears wakes reports part be num same header kindOf sameKey rise find swap without refusal changeAt dueOut wakeOut woken kindRow sendStep kindWake wakeRun wakeStep reported joined entry chunkPacket
+tablet-sends = (refl, refl, refl, refl, refl, refl, refl, refl, refl)
+
+-- the done, its acknowledgement, and the read: the state is Received when the done is acknowledged, not when it is sent
+pub tablet-ends : (wakes sendWake 1200 (acked stateInProgress) ≡ answers 0 (sends (donePacket id 2 (blake3 (piece0 ++ (piece1 ++ []))))) (acked stateInProgress))
+    × (hears read (acked stateInProgress) ≡ refuses wrongState (acked stateInProgress)) × (hears ackDone (acked stateInProgress) ≡ answers 0 [] (acked stateReceived))
+    × (wakes sendWake 1300 (acked stateReceived) ≡ answers 0 [] (acked stateReceived)) × (hears read (acked stateReceived) ≡ answers 0 [] (acked stateRead))
+    × (reports (acked stateRead) ≡ says stateRead 0 0 0)
+unfolding office topic piece0 piece1 id frame address ackDone read hears wakes reports part be num same header kindOf sameKey rise find swap without refusal changeAt dueOut wakeOut woken kindRow sendStep kindWake wakeRun wakeStep reported joined
+tablet-ends = (refl, refl, refl, refl, refl, refl)
+
+-- the deadline: Aborted, with an aborted packet, and nothing is sent any more; then the record and its cells are free
+pub tablet-aborts : (wakes deadlineWake 9000 sent ≡ answers 0 (sends (abortedPacket id)) (holding stateAborted 1 (cell 0 piece0 1000 pieceSent) (cell 1 piece1 1000 pieceSent)))
+    × (wakes sendWake 9000 (holding stateAborted 1 (cell 0 piece0 1000 pieceSent) (cell 1 piece1 1000 pieceSent))
+    ≡ answers 0 [] (holding stateAborted 1 (cell 0 piece0 1000 pieceSent) (cell 1 piece1 1000 pieceSent)))
+    × (wakes deadlineWake 9000 (holding stateAborted 1 (cell 0 piece0 1000 pieceSent) (cell 1 piece1 1000 pieceSent)) ≡ answers 0 [] (fresh roleSend 3))
+    × (wakes deadlineWake 9000 (fresh roleSend 3) ≡ refuses unknownId (fresh roleSend 3))
+unfolding office topic piece0 piece1 id frame address hears wakes part be num same header kindOf sameKey rise find swap without refusal changeAt dropAt wakeOut woken deadlineOut deadlineAt wakeRun wakeStep
+tablet-aborts = (refl, refl, refl, refl)

@@ -11,9 +11,12 @@ fn first_byte(x: u8) -> u8
     4 | ((u8::count_ones(x) % 2) as u8)
 }
 
-// Writes the address of the key at the start of out. Answers 1 for a key that is not 32 bytes long, 2 for a buffer under 16, else 0.
+// Writes the address of the key at the start of out. Answers 1 for a key that is not 32 bytes long, 2 for a
+// buffer under 16, else 0.
 pub fn address(key: &[u8], out: &mut [u8]) -> u64
-    ensures { λ r. ⌜ (record { number = r; out = now (out .exit) }) ≡ addressOf (now (key .entry)) (now (out .entry)) ⌝ }
+    ensures { λ r.
+        ⌜ (record { number = r; out = now (out .exit) })
+        ≡ addressOf (now (key .entry)) (now (out .entry)) ⌝ }
 {
     if key.len() != 32 {
         return answer::BAD_FRAME;

@@ -3,7 +3,8 @@ ghost use mathlib.Core.Path.{_≡_};
 ghost use Rattle.blake3.specs.Compression as spec;
 use super::rounds;
 
-// The inputs of a compression: the input chaining value, the block's words, the counter, the number of bytes in the block, the flags.
+// The inputs of a compression: the input chaining value, the block's words, the counter, the number of bytes in the block,
+// the flags.
 pub struct Node {
     pub input: [u32; 8],
     pub block: [u32; 16],

@@ -29,18 +29,21 @@ use Rattle.cells.specs.Laying.{pieceLaid}
 
 -- ---- one piece
 
-module _ (b b′ : List ℕ) (x place row i : ℕ) (bytes : List ℕ) (p : place ≡ x) (q : row ≡ cellOff place) where
+module _ (b : List ℕ) (x i : ℕ) (bytes : List ℕ) where
+  -- what is laid, by whether more bytes follow
+  abbrev laidIf : Bool → List ℕ
+  laidIf k = put b (cellOff x) (cellRow (cond k (getD b (cellOff x) 0) 0) (newCell x i (take cutBy bytes)))
+
   -- more bytes follow
-  pub laid-on : cutBy < length bytes → b′ ≡ put b (cellOff place) (cellRow (getD b row 0) (newCell place i (take cutBy bytes))) → b′ ≡ pieceLaid b x i bytes
-  laid-on h w =
-      w ∙ (λ t. put b (cellOff (p t)) (cellRow (getD b ((q ∙ ap cellOff p) t) 0) (newCell (p t) i (take cutBy bytes))))
-      ∙ ap (λ (k : Bool). put b (cellOff x) (cellRow (cond k (getD b (cellOff x) 0) 0) (newCell x i (take cutBy bytes)))) (sym (lt-ltb cutBy (length bytes) h))
+  pub laid-on : {b′ : List ℕ} {row : ℕ} → row ≡ cellOff x → cutBy < length bytes
+      → b′ ≡ put b (cellOff x) (cellRow (getD b row 0) (newCell x i (take cutBy bytes))) → b′ ≡ pieceLaid b x i bytes
+  laid-on q h w =
+      w ∙ (λ t. put b (cellOff x) (cellRow (getD b (q t) 0) (newCell x i (take cutBy bytes)))) ∙ ap laidIf (sym (lt-ltb cutBy (length bytes) h))
 
   -- the last one
-  pub laid-last : length bytes ≤ cutBy → b′ ≡ put b (cellOff place) (cellRow 0 (newCell place i bytes)) → b′ ≡ pieceLaid b x i bytes
+  pub laid-last : {b′ : List ℕ} → length bytes ≤ cutBy → b′ ≡ put b (cellOff x) (cellRow 0 (newCell x i bytes)) → b′ ≡ pieceLaid b x i bytes
   laid-last h w =
-      w ∙ (λ t. put b (cellOff (p t)) (cellRow 0 (newCell (p t) i (sym (take-all cutBy bytes h) t))))
-      ∙ ap (λ (k : Bool). put b (cellOff x) (cellRow (cond k (getD b (cellOff x) 0) 0) (newCell x i (take cutBy bytes)))) (sym (le-ltb cutBy (length bytes) h))
+      w ∙ (λ t. put b (cellOff x) (cellRow 0 (newCell x i (sym (take-all cutBy bytes h) t)))) ∙ ap laidIf (sym (le-ltb cutBy (length bytes) h))
 
 -- ---- all of them
 
@@ -55,7 +58,8 @@ pub record Cutting (b₀ bytes b : List ℕ) (x i at : ℕ) : Type 0 where
   pub from : x ≡ first (drop i (free b₀))
   pub long : length b ≡ length b₀
   pub chain : Linked (link (cellAt b)) (drop i (free b₀))
-  pub gives : piecesLaid (cutPieces (slotsOf (length bytes) - i) i (drop i (free b₀)) (drop at bytes)) b ≡ piecesLaid (cutPieces (slotsOf (length bytes)) 0 (free b₀) bytes) b₀
+  pub gives : piecesLaid (cutPieces (slotsOf (length bytes) - i) i (drop i (free b₀)) (drop at bytes)) b
+      ≡ piecesLaid (cutPieces (slotsOf (length bytes)) 0 (free b₀) bytes) b₀
 
 -- one more is left out
 rest-drop : (n : ℕ) (l : List ℕ) → rest (drop n l) ≡ drop (suc n) l
@@ -76,7 +80,7 @@ pub record Cuttable (b₀ bytes : List ℕ) : Type 0 where
   pub fits : length bytes ≤ longest
   pub room : slotsOf (length bytes) ≤ length (free b₀)
 
-module _ (b₀ bytes : List ℕ) (g : Cuttable b₀ bytes) where
+module _ {b₀ bytes : List ℕ} (g : Cuttable b₀ bytes) where
   -- the head is there
   pub cut-head : freeCellsAt < length b₀
   cut-head = omega (arith, links roleSend b₀ (g .stored) (g .sound) .long)
@@ -85,17 +89,25 @@ module _ (b₀ bytes : List ℕ) (g : Cuttable b₀ bytes) where
   pub cut-start : Cutting b₀ bytes b₀ (getD b₀ freeCellsAt 0) 0 0
   cut-start =
       let c = free-chain roleSend b₀ (g .stored) (g .sound) in
-      record { turns = omega arith; done = omega arith; from = sym (c .from); long = refl; chain = c .links; gives = ap (λ (n : ℕ). piecesLaid (cutPieces n 0 (free b₀) bytes) b₀) (sub-zero (slotsOf (length bytes))) }
+      record {
+        turns = omega arith;
+        done = omega arith;
+        from = sym (c .from);
+        long = refl;
+        chain = c .links;
+        gives = ap (λ (n : ℕ). piecesLaid (cutPieces n 0 (free b₀) bytes) b₀) (sub-zero (slotsOf (length bytes)));
+      }
 
-  module _ (b : List ℕ) (x i at : ℕ) (c : Cutting b₀ bytes b x i at) where
+  module _ {b : List ℕ} {x i at : ℕ} (c : Cutting b₀ bytes b x i at) where
     -- an index is a byte
     pub cut-few : i ≤ 25
     cut-few = omega (arith, c .turns, g .fits)
 
     -- nothing is left: the head's link goes on
-    pub cut-end : length bytes ≤ at → (b′ : List ℕ) → b′ ≡ put b freeCellsAt (x ∷ []) → b′ ≡ cutBytes b₀ (cutPieces (slotsOf (length bytes)) 0 (free b₀) bytes) (drop (slotsOf (length bytes)) (free b₀))
+    pub cut-end : length bytes ≤ at → {b′ : List ℕ} → b′ ≡ put b freeCellsAt (x ∷ [])
+        → b′ ≡ cutBytes b₀ (cutPieces (slotsOf (length bytes)) 0 (free b₀) bytes) (drop (slotsOf (length bytes)) (free b₀))
     unfolding laid cutPieces
-    cut-end h b′ w =
+    cut-end h w =
         let e : i ≡ slotsOf (length bytes) = omega (arith, c .turns, c .done) in
         let none : slotsOf (length bytes) - i ≡ 0 = omega arith in
         let is : b ≡ piecesLaid (cutPieces (slotsOf (length bytes)) 0 (free b₀) bytes) b₀ = rw none at (c .gives) in
@@ -106,27 +118,32 @@ module _ (b₀ bytes : List ℕ) (g : Cuttable b₀ bytes) where
       one : One (slotsOf (length bytes) - i) i (drop i (free b₀)) (drop at bytes) b
       one =
           let v = valid roleSend b₀ (g .stored) (g .sound) in
-          lay-one (decode b₀ .setup .cells) i (drop at bytes) b (v .most) (λ j. rw getD-drop (g .given (at + j))) (c .long ∙ rep roleSend b₀ (g .stored) (g .sound) .size)
-          (slotsOf (length bytes) - i) (drop i (free b₀)) (omega (arith, c .turns, c .done, length-drop at bytes)) (omega (arith, length-drop at bytes))
-          (omega (arith, g .room, length-drop i (free b₀))) (few-drop (decode b₀ .setup .cells) i (free b₀) (free-few roleSend b₀ (g .stored) (g .sound))) (c .chain)
+          let few = few-drop (decode b₀ .setup .cells) i (free b₀) (free-few roleSend b₀ (g .stored) (g .sound)) in
+          let long = c .long ∙ rep roleSend b₀ (g .stored) (g .sound) .size in
+          lay-one (decode b₀ .setup .cells) i (drop at bytes) b (v .most) (λ j. rw getD-drop (g .given (at + j))) long (slotsOf (length bytes) - i)
+          (drop i (free b₀)) (omega (arith, c .turns, c .done, length-drop at bytes)) (omega (arith, length-drop at bytes))
+          (omega (arith, g .room, length-drop i (free b₀))) few (c .chain)
 
       -- the next free cell is one
-      pub cut-cell : CellIn b x
-      cut-cell = subst (CellIn b) (sym (c .from)) (one .cell)
+      pub cut-cell : {p : ℕ} → p ≡ x → CellIn b p
+      cut-cell q = subst (CellIn b) (sym (q ∙ c .from)) (one .cell)
 
-      -- one more piece
-      pub cut-on : (b′ : List ℕ) (x′ : ℕ) (left : List ℕ) → left ≡ take (length bytes - at) (drop at bytes) → x′ ≡ getD b (cellOff x) 0 → b′ ≡ pieceLaid b x i left → Cutting b₀ bytes b′ x′ (i + 1) (at + cutBy)
-      cut-on b′ x′ left s e w =
+      -- one more piece, in the cell at the place p
+      pub cut-on : {b′ : List ℕ} {p x′ : ℕ} → p ≡ x → x′ ≡ getD b (cellOff p) 0 → b′ ≡ pieceLaid b p i (take (length bytes - at) (drop at bytes))
+          → Cutting b₀ bytes b′ x′ (i + 1) (at + cutBy)
+      cut-on {b′} {p} q e w =
+          let all = take-all (length bytes - at) (drop at bytes) (omega (arith, length-drop at bytes)) in
           let is : b′ ≡ pieceLaid b (first (drop i (free b₀))) i (drop at bytes) =
-          w ∙ ap (pieceLaid b x i) (s ∙ take-all (length bytes - at) (drop at bytes) (omega (arith, length-drop at bytes))) ∙ ap (λ (k : ℕ). pieceLaid b k i (drop at bytes)) (c .from) in
+          w ∙ ap (pieceLaid b p i) all ∙ ap (λ (k : ℕ). pieceLaid b k i (drop at bytes)) (q ∙ c .from) in
           let behind : rest (drop i (free b₀)) ≡ drop (i + 1) (free b₀) = rest-drop i (free b₀) ∙ ap (λ (k : ℕ). drop k (free b₀)) (sym (add-one i)) in
           let n : slotsOf (length bytes) - (i + 1) ≡ slotsOf (length bytes) - i - 1 = omega arith in
           record {
             turns = omega (arith, c .turns, c .done);
             done = omega (arith, c .done);
-            from = e ∙ ap (λ (k : ℕ). getD b (cellOff k) 0) (c .from) ∙ one .next ∙ ap first behind;
+            from = e ∙ ap (λ (k : ℕ). getD b (cellOff k) 0) (q ∙ c .from) ∙ one .next ∙ ap first behind;
             long = ap length is ∙ one .long ∙ c .long;
             chain = subst (λ (l : List ℕ). Linked (link (cellAt l)) (drop (i + 1) (free b₀))) (sym is)
                 (subst (Linked (link (cellAt (pieceLaid b (first (drop i (free b₀))) i (drop at bytes))))) behind (one .chain));
-            gives = (λ k. piecesLaid (cutPieces (n k) (add-one i k) (sym behind k) (sym (drop-drop cutBy at bytes) k)) (is k)) ∙ one .left ∙ c .gives;
+            gives = (λ k. piecesLaid (cutPieces (n k) (add-one i k) (sym behind k) (sym (drop-drop cutBy at bytes) k)) (is k)) ∙ one .left
+                ∙ c .gives;
           }

@@ -1,5 +1,5 @@
 -- What the calls of an insertion together make of the bytes. Assumes nothing.
-use Prim.Native.Nat.{ℕ, suc, _+_, _≤_, max}
+use Prim.Native.Nat.{ℕ, suc, _+_, max}
 use native.Mathlib.Numerals.{add-one}
 use native.Mathlib.Omega.{arith}
 use mathlib.Core.Path.{_≡_, refl, sym, ap, _∙_}
@@ -10,14 +10,14 @@ use lib.Dec.{eqb}
 use borrow.Author.Tests.{eqb-false, ne-eqb}
 use Rattle.octets.specs.Octets.{put}
 use Rattle.octets.specs.BoolsLaws.{cases, clash}
-use Rattle.machine.specs.Limits.{recCount}
 use Rattle.machine.specs.Layout.{recOff, cellOff, cellRow}
 use Rattle.machine.specs.Pieces.{newCell}
 use Rattle.links.specs.Links.{Links}
-use Rattle.cells.specs.InPlace.{spotFrom, spotIn, indexBehind, holdsIndex, rewritten, grown, inserted, chunked, LinkIn, CellIn}
+use Rattle.cells.specs.InPlace.{spotIn, indexBehind, holdsIndex, rewritten, grown, inserted, chunked, LinkIn, CellIn}
 use Rattle.cells.specs.ReadLaws.{cell-in}
 
-pub grow-written : (b b1 : List ℕ) (at k i x slots : ℕ) → at ≡ recOff k → x ≡ getD b (at + 7) 0 → slots ≡ max x (i + 1) → b1 ≡ put b (at + 7) (slots ∷ []) → b1 ≡ grown b k i
+pub grow-written : (b b1 : List ℕ) (at k i x slots : ℕ) → at ≡ recOff k → x ≡ getD b (at + 7) 0
+    → slots ≡ max x (i + 1) → b1 ≡ put b (at + 7) (slots ∷ []) → b1 ≡ grown b k i
 grow-written b b1 at k i x slots q y n e =
     e ∙ ap (λ (m : ℕ). put b (at + 7) (m ∷ [])) (n ∙ (λ t. max (y t) (add-one i t)))
     ∙ ap (λ (o : ℕ). put b (o + 7) (max (getD b (o + 7) 0) (suc i) ∷ [])) q
@@ -30,7 +30,8 @@ holds-none b at i x q z = rw (sym q ∙ z)
 pub holds-some : (b : List ℕ) (at i x cell y : ℕ) → x ≡ getD b at 0 → (x ≡ 0 → ⊥) → cell ≡ cellOff x → y ≡ getD b (cell + 1) 0 → eqb i y ≡ holdsIndex b at i
 holds-some b at i x cell y q z c e =
     let none : eqb (getD b at 0) 0 ≡ false = ne-eqb (getD b at 0) 0 (λ o. z (q ∙ o)) in
-    ap (eqb i) (e ∙ (λ t. getD b (c t + 1) 0) ∙ ap (λ (k : ℕ). getD b (cellOff k + 1) 0) q) ∙ ap (λ (t : Bool). cond t false (eqb i (indexBehind b at))) (sym none)
+    ap (eqb i) (e ∙ (λ t. getD b (c t + 1) 0) ∙ ap (λ (k : ℕ). getD b (cellOff k + 1) 0) q)
+    ∙ ap (λ (t : Bool). cond t false (eqb i (indexBehind b at))) (sym none)
 
 -- it is in a cell
 pub holds-cell : (b : List ℕ) (at i : ℕ) → Links b → LinkIn b at → holdsIndex b at i ≡ true → CellIn b (getD b at 0)
@@ -48,16 +49,10 @@ unfolding inserted
 insert-written b b1 b2 b3 b4 cell at k link i bytes q a e1 e2 e3 e4 =
     e4 ∙ ap (λ (x : List ℕ). put x link (getD b 3 0 ∷ []))
     (e3 ∙ ap (λ (x : List ℕ). put x 3 (getD b at 0 ∷ [])) (e2 ∙ ap (λ (x : List ℕ). put x (cellOff cell) (cellRow (getD b link 0) (newCell cell i bytes))) e1))
-    ∙ (λ t. put (put (put (grown b k i) (cellOff (q t)) (cellRow (getD b link 0) (newCell (q t) i bytes))) 3 (getD b ((a ∙ ap cellOff q) t) 0 ∷ [])) link (getD b 3 0 ∷ []))
+    ∙ (λ t. put (put (put (grown b k i) (cellOff (q t)) (cellRow (getD b link 0) (newCell (q t) i bytes))) 3 (getD b ((a ∙ ap cellOff q) t) 0 ∷ []))
+    link (getD b 3 0 ∷ []))
 
 -- ---- a piece of a record
-
--- a record's link to its first cell is one
-pub first-in : (b : List ℕ) (at k : ℕ) → Links b → 1 ≤ k → k ≤ recCount → at ≡ recOff k → LinkIn b (at + 5)
-first-in b at k h a g q = rw q record { inside = omega (arith, h .long); leads = h .firsts k a g }
-
-pub spot-in : (b : List ℕ) (link at k i : ℕ) → link ≡ spotFrom b 46 (at + 5) i → at ≡ recOff k → link ≡ spotIn b k i
-spot-in b link at k i e q = e ∙ ap (λ (o : ℕ). spotFrom b 46 (o + 5) i) q
 
 module _ (b e : List ℕ) (link k i : ℕ) (bytes : List ℕ) (q : link ≡ spotIn b k i) where
   pub chunk-held : (cell : ℕ) → true ≡ holdsIndex b link i → cell ≡ getD b link 0 → e ≡ rewritten b cell bytes → e ≡ chunked b k i bytes

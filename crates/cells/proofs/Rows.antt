@@ -15,7 +15,8 @@ use Rattle.cells.specs.InPlace.{remarked, CellIn}
 
 -- zeros up to the largest piece are zeros up to a row's end
 fields : (next index k : ℕ) (bytes : List ℕ) → length bytes ≤ largestPiece
-    → ((((next ∷ index ∷ []) ++ be 2 (length bytes)) ++ replicate 12 0) ++ bytes) ++ replicate (largestPiece - length bytes) 0 ≡ cellRow next (newCell k index bytes)
+    → ((((next ∷ index ∷ []) ++ be 2 (length bytes)) ++ replicate 12 0) ++ bytes)
+    ++ replicate (largestPiece - length bytes) 0 ≡ cellRow next (newCell k index bytes)
 unfolding be cellRow
 fields next index k bytes h =
     let front : List ℕ = ((next ∷ index ∷ []) ++ be 2 (length bytes)) ++ replicate 12 0 in
@@ -33,10 +34,12 @@ row-written b b1 b2 b3 b4 b5 at k next index bytes i h q e1 e2 e3 e4 e5 =
     let w2 = then (be 2 n) 2 w1 e2 (length-be 2 n) (omega arith) in
     let w3 = then (replicate 12 0) 12 w2 e3 refl (omega arith) in
     let w4 = then bytes n w3 e4 refl (omega arith) in
-    let w5 = then (replicate (largestPiece - n) 0) (largestPiece - n) w4 (e5 ∙ ap (λ (o : ℕ). put b4 o (replicate (largestPiece - n) 0)) j) (length-replicate (largestPiece - n) 0) (omega arith) in
+    let w5 = then (replicate (largestPiece - n) 0) (largestPiece - n) w4 (e5 ∙ ap (λ (o : ℕ). put b4 o (replicate (largestPiece - n) 0)) j)
+    (length-replicate (largestPiece - n) 0) (omega arith) in
     w5 .is ∙ (λ t. put b (q t) (fields next index k bytes h t))
 
-pub marks-written : (b b1 b2 : List ℕ) (at k stamp state : ℕ) → CellIn b k → at ≡ cellOff k → b1 ≡ put b (at + 4) (be 8 stamp) → b2 ≡ put b1 (at + 12) (state ∷ [])
+pub marks-written : (b b1 b2 : List ℕ) (at k stamp state : ℕ) → CellIn b k → at ≡ cellOff k
+    → b1 ≡ put b (at + 4) (be 8 stamp) → b2 ≡ put b1 (at + 12) (state ∷ [])
     → b2 ≡ remarked b k stamp state
 marks-written b b1 b2 at k stamp state i q e1 e2 =
     let j : at + 12 ≡ at + 4 + 8 = omega arith in

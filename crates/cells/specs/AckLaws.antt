@@ -32,7 +32,8 @@ use Rattle.cells.specs.SpotLaws.{below, below-onward, PieceHeld, put-hel
 use Rattle.cells.specs.HeldLaws.{fine, piece-in, spot-leads}
 use Rattle.cells.specs.MarkLaws.{ack-rep}
 
-module _ (key : Key) (i : ℕ) (r : Rec) (s : Store) (b : List ℕ) (v : Valid roleSend s) (rep : Rep s b) (e : found key (s .held) ≡ some r) (h : i < length (r .cells)) where
+module _ (key : Key) (i : ℕ) (r : Rec) (s : Store) (b : List ℕ) (v : Valid roleSend s) (rep : Rep s b) (e : found key (s .held) ≡ some r)
+    (h : i < length (r .cells)) where
   at : Split sameKey recKey key r (s .held)
   at = found-split sameKey recKey key r (s .held) e
 
@@ -86,5 +87,6 @@ module _ (b : List ℕ) (at i : ℕ) (y : Bytes b) (h : HeldAt roleSend b at) (n
   pub acked-cell : CellIn b (getD b (spotIn b (placeAt b at) i) 0)
   unfolding recOf decode
   acked-cell =
-      let q = spot-inside (keyIn b at) i (recIn b at) (decode b) b (valid roleSend b y (h .sound)) (rep roleSend b y (h .sound)) (held-here roleSend b y at h) n in
+      let q = spot-inside (keyIn b at) i (recIn b at) (decode b) b (valid roleSend b y (h .sound))
+      (rep roleSend b y (h .sound)) (held-here roleSend b y at h) n in
       cell-in b (links roleSend b y (h .sound)) (getD b (spotIn b (placeAt b at) i) 0) (q .0) (q .1)

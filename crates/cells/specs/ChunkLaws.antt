@@ -70,6 +70,10 @@ module _ (key : Key) (i : ℕ) (bytes : List ℕ) (r : Rec) (s : Store) (b : Lis
   abbrev piece : Rec
   piece = withPiece (first FC) i bytes r
 
+  -- the record with other slots and pieces
+  abbrev pieced : ℕ → List Cell → Rec
+  pieced n cs = record { place = r .place; label = r .label; slots = n; sending = r .sending; cells = cs }
+
   -- the record is replaced where it stands
   replaced-is : replaced piece (s .held) ≡ l ++ (piece ∷ m)
   replaced-is = at .swapped piece (sym (find-key sameKey recKey key-eq key-refl key r (s .held) e))
@@ -90,18 +94,13 @@ module _ (key : Key) (i : ℕ) (bytes : List ℕ) (r : Rec) (s : Store) (b : Lis
         (subst (All (λ (c : Cell). c .index < r .slots)) parts (rising-below 0 (r .slots) (r .cells) (fine roleReceive s v l r m (at .is) .rises))) .0 in
         omega (arith, h .index)
 
-    held-is : heldStore s (l ++ (record { place = r .place; label = r .label; slots = r .slots; sending = r .sending; cells = below i (r .cells) ++ (newCell (h .piece .place) (h .piece .index) bytes ∷ h .behind) } ∷ m)) FC
+    held-is : heldStore s (l ++ (pieced (r .slots) (below i (r .cells) ++ (newCell (h .piece .place) (h .piece .index) bytes ∷ h .behind)) ∷ m)) FC
         ≡ chunkAt (some r) i bytes s
     unfolding chunkAt
     held-is =
         rw (held, replaced-is)
-        (λ t. heldStore s (l ++ (record {
-          place = r .place;
-          label = r .label;
-          slots = slots-stay t;
-          sending = r .sending;
-          cells = (ap (λ (j : ℕ). below i (r .cells) ++ (newCell (h .piece .place) j bytes ∷ h .behind)) (h .index) ∙ sym (h .put)) t;
-        } ∷ m)) FC)
+        (λ t. heldStore s (l ++ (pieced (slots-stay t)
+        ((ap (λ (j : ℕ). below i (r .cells) ++ (newCell (h .piece .place) j bytes ∷ h .behind)) (h .index) ∙ sym (h .put)) t) ∷ m)) FC)
 
     held-rep : Rep (chunkAt (some r) i bytes s) (rewritten b (h .piece .place) bytes)
     held-rep =
@@ -123,12 +122,11 @@ module _ (key : Key) (i : ℕ) (bytes : List ℕ) (r : Rec) (s : Store) (b : Lis
     free : FC ≡ first FC ∷ rest FC
     free = parted FC room
 
-    new-is : heldStore s (l ++ (record { place = r .place; label = r .label; slots = slots; sending = r .sending; cells = below i (r .cells) ++ (c ∷ onward i (r .cells)) } ∷ m)) (rest FC)
-        ≡ chunkAt (some r) i bytes s
+    new-is : heldStore s (l ++ (pieced slots (below i (r .cells) ++ (c ∷ onward i (r .cells))) ∷ m)) (rest FC) ≡ chunkAt (some r) i bytes s
     unfolding chunkAt
     new-is =
         rw (new, replaced-is)
-        (λ t. heldStore s (l ++ (record { place = r .place; label = r .label; slots = slots; sending = r .sending; cells = sym (put-new (first FC) i bytes (r .cells) new) t } ∷ m)) (rest FC))
+        (λ t. heldStore s (l ++ (pieced slots (sym (put-new (first FC) i bytes (r .cells) new) t) ∷ m)) (rest FC))
 
     first-free : getD b freeCellsAt 0 ≡ first FC
     first-free = head-byte roleReceive s v b rep freeCellsAt (omega arith)
@@ -136,26 +134,35 @@ module _ (key : Key) (i : ℕ) (bytes : List ℕ) (r : Rec) (s : Store) (b : Lis
     behind-free : getD b (cellOff (first FC)) 0 ≡ first (rest FC)
     behind-free =
         sym (cell-next b (first FC))
-        ∙ ap (λ (x : List ℕ). getD x 0 0) (subst (λ (x : List ℕ). Held (cellAt b) (chainRows freePlace (freeRow cellBytes) x)) free (held-freeCells s (cellAt b) (rep .cells)) .0) ∙ ap first (free-map (rest FC))
+        ∙ ap (λ (x : List ℕ). getD x 0 0)
+        (subst (λ (x : List ℕ). Held (cellAt b) (chainRows freePlace (freeRow cellBytes) x)) free (held-freeCells s (cellAt b) (rep .cells)) .0)
+        ∙ ap first (free-map (rest FC))
 
     own-slots : getD b (recOff (r .place) + slotsAt) 0 ≡ r .slots
     unfolding recRow
-    own-slots = sym (getD-part b (recOff (r .place)) recBytes slotsAt (omega arith)) ∙ ap (λ (x : List ℕ). getD x slotsAt 0) (row-is roleReceive s v b rep l r m (at .is))
+    own-slots =
+        sym (getD-part b (recOff (r .place)) recBytes slotsAt (omega arith))
+        ∙ ap (λ (x : List ℕ). getD x slotsAt 0) (row-is roleReceive s v b rep l r m (at .is))
 
     new-bytes : inserted b (r .place) (spotIn b (r .place) i) i bytes
-        ≡ insertBytes roleReceive s v b rep l r m (at .is) (below i (r .cells)) (onward i (r .cells)) (below-onward i (r .cells)) c (new-sized (first FC) i bytes z) (rest FC) free slots
+        ≡ insertBytes roleReceive s v b rep l r m (at .is) (below i (r .cells)) (onward i (r .cells))
+        (below-onward i (r .cells)) c (new-sized (first FC) i bytes z) (rest FC) free slots
     unfolding inserted
     new-bytes =
         let p : ℕ = first FC in
         ap (λ (p : ℕ). insertedAt p b (r .place) (spotIn b (r .place) i) i bytes) first-free
-        ∙ (λ t. put (put (put (put b (recOff (r .place) + slotsAt) (max (own-slots t) (suc i) ∷ [])) (cellOff p) (cellRow (spot-leads roleReceive s v l r m (at .is) b rep i t) c))
+        ∙ (λ t. put (put (put (put b (recOff (r .place) + slotsAt) (max (own-slots t) (suc i) ∷ []))
+        (cellOff p) (cellRow (spot-leads roleReceive s v l r m (at .is) b rep i t) c))
         freeCellsAt (behind-free t ∷ [])) (spot-of roleReceive s v l r m (at .is) b rep i t) (p ∷ []))
 
     new-rep : Rep (chunkAt (some r) i bytes s) (inserted b (r .place) (spotIn b (r .place) i) i bytes)
     new-rep =
         subst (Rep (chunkAt (some r) i bytes s)) (sym new-bytes)
-        (subst (λ (t : Store). Rep t (insertBytes roleReceive s v b rep l r m (at .is) (below i (r .cells)) (onward i (r .cells)) (below-onward i (r .cells)) c (new-sized (first FC) i bytes z) (rest FC) free slots)) new-is
-        (insert-rep roleReceive s v b rep l r m (at .is) (below i (r .cells)) (onward i (r .cells)) (below-onward i (r .cells)) c (new-sized (first FC) i bytes z) (rest FC) free slots))
+        (subst (λ (t : Store). Rep t
+        (insertBytes roleReceive s v b rep l r m (at .is) (below i (r .cells)) (onward i (r .cells))
+        (below-onward i (r .cells)) c (new-sized (first FC) i bytes z) (rest FC) free slots)) new-is
+        (insert-rep roleReceive s v b rep l r m (at .is) (below i (r .cells)) (onward i (r .cells))
+        (below-onward i (r .cells)) c (new-sized (first FC) i bytes z) (rest FC) free slots))
 
   -- ---- both
 
@@ -202,7 +209,8 @@ module _ (b : List ℕ) (at i : ℕ) (bytes : List ℕ) (y : Bytes b) (h : HeldA
   pub put-is : chunked b (placeAt b at) i bytes ≡ encode (chunkStep (keyIn b at) i bytes (decode b))
   unfolding recOf
   put-is =
-      chunk-is (keyIn b at) i bytes (recIn b at) (decode b) b (valid roleReceive b y (h .sound)) (rep roleReceive b y (h .sound)) (held-here roleReceive b y at h) z top room
+      chunk-is (keyIn b at) i bytes (recIn b at) (decode b) b (valid roleReceive b y (h .sound))
+      (rep roleReceive b y (h .sound)) (held-here roleReceive b y at h) z top room
 
   -- what the code asks
   pub put-asks : Links b × PieceFits (placeAt b at) i (length bytes) × (holdsIndex b (spotIn b (placeAt b at) i) i ≡ false → 0 < getD b freeCellsAt 0)

@@ -42,7 +42,8 @@ pub record One (n i : ℕ) (places bytes b : List ℕ) : Type 0 where
   pub next : getD b (cellOff (first places)) 0 ≡ first (rest places)
   pub long : length (pieceLaid b (first places) i bytes) ≡ length b
   pub chain : Linked (link (cellAt (pieceLaid b (first places) i bytes))) (rest places)
-  pub left : piecesLaid (cutPieces (n - 1) (suc i) (rest places) (drop cutBy bytes)) (pieceLaid b (first places) i bytes) ≡ piecesLaid (cutPieces n i places bytes) b
+  pub left : piecesLaid (cutPieces (n - 1) (suc i) (rest places) (drop cutBy bytes)) (pieceLaid b (first places) i bytes)
+      ≡ piecesLaid (cutPieces n i places bytes) b
 
 module _ (C i : ℕ) (bytes b : List ℕ) (most : C ≤ mostCells) (y : Bytes bytes) (size : length b ≡ storeBytes C) where
   -- where its link leads

@@ -43,23 +43,27 @@ module _ (role : ℕ) (s : Store) (v : Valid role s) (l : List Rec) (r : Rec) (m
   pub fine : Fine role (heldKind role) r
   fine =
       fits-fine role (heldKind role) r
-      (all-right (λ (x : Rec). recFits role (heldKind role) x ≡ true) l (r ∷ m) (subst (All (λ (x : Rec). recFits role (heldKind role) x ≡ true)) is (v .held)) .0)
+      (all-right (λ (x : Rec). recFits role (heldKind role) x ≡ true) l (r ∷ m)
+      (subst (All (λ (x : Rec). recFits role (heldKind role) x ≡ true)) is (v .held)) .0)
 
   -- each of their places is a cell's, and none of them stands twice or elsewhere
-  pub pieces-once : (k : ℕ) → occurs k (s .freeCells) + (occurs k (map cellPlace (r .cells)) + occurs k (piecePlaces (l ++ (m ++ s .whole)))) ≡ one (inside (s .setup .cells) k)
+  pub pieces-once : (k : ℕ)
+      → occurs k (s .freeCells) + (occurs k (map cellPlace (r .cells)) + occurs k (piecePlaces (l ++ (m ++ s .whole)))) ≡ one (inside (s .setup .cells) k)
   pieces-once k = omega (arith, cells-once role s v k, ap (λ (x : List Rec). occurs k (piecePlaces x)) around ∙ pieces-around l r (m ++ s .whole) k)
 
   pub pieces-in : All (λ p. (0 < p) × (p ≤ s .setup .cells)) (map cellPlace (r .cells))
   pieces-in = few-inside (s .setup .cells) (map cellPlace (r .cells)) (λ k. omega (arith, pieces-once k))
 
   pub few-pieces : length (r .cells) ≤ mostCells
-  few-pieces = omega (arith, few-short (s .setup .cells) (map cellPlace (r .cells)) (λ k. omega (arith, pieces-once k)), v .most, length-map (r .cells) cellPlace)
+  few-pieces =
+      omega (arith, few-short (s .setup .cells) (map cellPlace (r .cells)) (λ k. omega (arith, pieces-once k)), v .most, length-map (r .cells) cellPlace)
 
   -- the place of a piece
   pub piece-in : (cl : List Cell) (c : Cell) (cm : List Cell) → r .cells ≡ cl ++ (c ∷ cm) → (0 < c .place) × (c .place ≤ s .setup .cells)
   piece-in cl c cm e =
       all-right (λ (x : Cell). (0 < x .place) × (x .place ≤ s .setup .cells)) cl (c ∷ cm)
-      (subst (All (λ (x : Cell). (0 < x .place) × (x .place ≤ s .setup .cells))) e (map-all cellPlace (λ p. (0 < p) × (p ≤ s .setup .cells)) (r .cells) pieces-in)) .0
+      (subst (All (λ (x : Cell). (0 < x .place) × (x .place ≤ s .setup .cells))) e
+      (map-all cellPlace (λ p. (0 < p) × (p ≤ s .setup .cells)) (r .cells) pieces-in)) .0
 
   module _ (b : List ℕ) (rep : Rep s b) where
     pub pieces-held : Held (cellAt b) (chainRows cellPlace cellRow (r .cells))

@@ -20,7 +20,8 @@ use Rattle.machine.specs.Rows.{Row, pad}
 use Rattle.laws.specs.Rows.{places, Held, held-left, held-right, held-join, held-same}
 use Rattle.machine.specs.Chains.{first, chainRows}
 use Rattle.machine.specs.Counting.{occurs, inside}
-use Rattle.machine.specs.Layout.{form, freeCellsAt, firstCellAt, slotsAt, recPlace, cellPlace, freePlace, freeRow, recRow, cellRow, recRows, piecesRows, headRow, recOff, cellOff, recAt, cellAt}
+use Rattle.machine.specs.Layout.{form, freeCellsAt, firstCellAt, slotsAt, recPlace, cellPlace, freePlace, freeRow, recRow}
+use Rattle.machine.specs.Layout.{cellRow, recRows, piecesRows, headRow, recOff, cellOff, recAt, cellAt}
 use Rattle.machine.specs.Sound.{piecePlaces}
 use Rattle.machine.specs.Valid.{CellSized, RecSized, Valid}
 use Rattle.laws.specs.Counting.{self, few-inside, one-inside}
@@ -30,7 +31,8 @@ use Rattle.laws.specs.RecRow.{rec-length}
 use Rattle.laws.specs.CellRow.{cell-length}
 use Rattle.laws.specs.StoreRows.{pieces-places, rec-places, held-freeCells, held-pieces, held-cells}
 use Rattle.laws.specs.Rep.{Rep, rec-once}
-use Rattle.laws.specs.Write.{Wrote, write-field, write-row, held-stay, rec-leaves-head, rec-leaves-cells, cell-leaves-head, cell-leaves-recs, head-write, head-leaves-recs, head-leaves-cells}
+use Rattle.laws.specs.Write.{Wrote, write-field, write-row, held-stay, rec-leaves-head, rec-leaves-cells}
+use Rattle.laws.specs.Write.{cell-leaves-head, cell-leaves-recs, head-write, head-leaves-recs, head-leaves-cells}
 use Rattle.links.specs.Unheld
 use Rattle.links.specs.Swap.{heldStore, row-is, swap-recs}
 use Rattle.links.specs.Release.{held-around}
@@ -40,7 +42,8 @@ use Rattle.cells.specs.HeldLaws.{around, sized, pieces-once, pieces-held
 use Rattle.cells.specs.RecLinkLaws.{Led, lead-on}
 
 -- the pieces of a record among those of others
-held-with : (f : ℕ → List ℕ) (l : List Rec) (r : Rec) (n : List Rec) → Held f (piecesRows (l ++ n)) → Held f (chainRows cellPlace cellRow (r .cells)) → Held f (piecesRows (l ++ (r ∷ n)))
+held-with : (f : ℕ → List ℕ) (l : List Rec) (r : Rec) (n : List Rec) → Held f (piecesRows (l ++ n))
+    → Held f (chainRows cellPlace cellRow (r .cells)) → Held f (piecesRows (l ++ (r ∷ n)))
 held-with f [] r n h k = held-join f (chainRows cellPlace cellRow (r .cells)) (piecesRows n) k h
 held-with f (a ∷ l) r n h k =
     let rows = chainRows cellPlace cellRow (a .cells) in
@@ -52,12 +55,14 @@ occurs-two k (a ∷ l) n = omega (arith, occurs-two k l n)
 
 -- the slots and the first cell of a record's row
 slots-row : (kind next slots : ℕ) (r : Rec)
-    → put (recRow kind next r) slotsAt (slots ∷ []) ≡ recRow kind next (record { place = r .place; label = r .label; slots = slots; sending = r .sending; cells = r .cells })
+    → put (recRow kind next r) slotsAt (slots ∷ []) ≡ recRow kind next
+    (record { place = r .place; label = r .label; slots = slots; sending = r .sending; cells = r .cells })
 unfolding put recRow
 slots-row kind next slots r = refl
 
 first-row : (kind next p : ℕ) (r : Rec) (cells : List Cell) → p ≡ first (map cellPlace cells)
-    → put (recRow kind next r) firstCellAt (p ∷ []) ≡ recRow kind next (record { place = r .place; label = r .label; slots = r .slots; sending = r .sending; cells = cells })
+    → put (recRow kind next r) firstCellAt (p ∷ []) ≡ recRow kind next
+    (record { place = r .place; label = r .label; slots = r .slots; sending = r .sending; cells = cells })
 unfolding put recRow
 first-row kind next p r cells e = ap (λ (x : ℕ). put (recRow kind next r) firstCellAt (x ∷ [])) e
 
@@ -106,7 +111,8 @@ module _ (role : ℕ) (s : Store) (v : Valid role s) (b : List ℕ) (rep : Rep s
   within : (0 < k) × (k ≤ recCount)
   within = Unheld.within role s v b rep l r m is
 
-  once : (j : ℕ) → one (eqb j p) + occurs j spare + (occurs j (map cellPlace cl) + occurs j (map cellPlace cm)) + occurs j (piecePlaces (l ++ (m ++ s .whole))) ≡ one (inside C j)
+  once : (j : ℕ) → one (eqb j p) + occurs j spare + (occurs j (map cellPlace cl) + occurs j (map cellPlace cm)) + occurs j
+      (piecePlaces (l ++ (m ++ s .whole))) ≡ one (inside C j)
   once j =
       omega (
         arith,
@@ -185,7 +191,8 @@ module _ (role : ℕ) (s : Store) (v : Valid role s) (b : List ℕ) (rep : Rep s
       lead-on C k p x cl b3 (within .0) (within .1) size3
       (map-all cellPlace (λ y. (0 < y) × (y ≤ C)) cl (few-inside C (map cellPlace cl) (λ j. omega (arith, once j))))
       (λ j. omega (arith, once j, one-le (inside C j))) leads3
-      (stay (rowsTo cellPlace cellRow x cl) (λ j. omega (arith, once j, to-places j)) (held-left (cellAt b) (rowsTo cellPlace cellRow x cl) (chainRows cellPlace cellRow cm) two))
+      (stay (rowsTo cellPlace cellRow x cl) (λ j. omega (arith, once j, to-places j))
+      (held-left (cellAt b) (rowsTo cellPlace cellRow x cl) (chainRows cellPlace cellRow cm) two))
 
   keep : (n : List Row) → ((j : ℕ) → occurs j (places n) + occurs j (map cellPlace cl) ≤ one (inside C j)) → Held (cellAt b3) n → Held (cellAt insertBytes) n
   keep n i h = led .rows n (omega (arith, i 0)) (λ j q. omega (arith, i j, one-le (inside C j))) h
@@ -196,9 +203,11 @@ module _ (role : ℕ) (s : Store) (v : Valid role s) (b : List ℕ) (rep : Rep s
   now-chain : Held (cellAt insertBytes) (chainRows cellPlace cellRow (cl ++ (c ∷ cm)))
   now-chain =
       let back = chainRows cellPlace cellRow (c ∷ cm) in
-      let stayed = stay (chainRows cellPlace cellRow cm) (λ j. omega (arith, once j, cm-places j)) (held-right (cellAt b) (rowsTo cellPlace cellRow x cl) (chainRows cellPlace cellRow cm) two) in
+      let stayed = stay (chainRows cellPlace cellRow cm) (λ j. omega (arith, once j, cm-places j))
+      (held-right (cellAt b) (rowsTo cellPlace cellRow x cl) (chainRows cellPlace cellRow cm) two) in
       subst (Held (cellAt insertBytes)) (sym (chain-append cellPlace cellRow cl (c ∷ cm)))
-      (held-join (cellAt insertBytes) (rowsTo cellPlace cellRow p cl) back (led .chain) (keep back (λ j. omega (arith, once j, cm-places j)) (cells3 p ∙ w2 .here, stayed)))
+      (held-join (cellAt insertBytes) (rowsTo cellPlace cellRow p cl) back (led .chain)
+      (keep back (λ j. omega (arith, once j, cm-places j)) (cells3 p ∙ w2 .here, stayed)))
 
   -- ---- other cells
 
@@ -216,7 +225,8 @@ module _ (role : ℕ) (s : Store) (v : Valid role s) (b : List ℕ) (rep : Rep s
       λ j. ap (occurs j) (pieces-places (l ++ (m ++ s .whole))) in
       keep (piecesRows (l ++ (m ++ s .whole))) (λ j. omega (arith, once j, e j))
       (stay (piecesRows (l ++ (m ++ s .whole))) (λ j. omega (arith, once j, e j))
-      (held-around (cellAt b) l r (m ++ s .whole) (subst (λ (y : List Rec). Held (cellAt b) (piecesRows y)) (around role s v l r m is) (held-pieces s (cellAt b) (rep .cells)))))
+      (held-around (cellAt b) l r (m ++ s .whole)
+      (subst (λ (y : List Rec). Held (cellAt b) (piecesRows y)) (around role s v l r m is) (held-pieces s (cellAt b) (rep .cells)))))
 
   now-pieces : Held (cellAt insertBytes) (piecesRows ((l ++ (joinedBy ∷ m)) ++ s .whole))
   now-pieces =
@@ -250,7 +260,9 @@ module _ (role : ℕ) (s : Store) (v : Valid role s) (b : List ℕ) (rep : Rep s
   e = put b (recOff k) (recRow kind next joinedBy)
 
   we : Wrote headBytes recBytes k (recRow kind next joinedBy) b e
-  we = write-row headBytes recBytes k (recRow kind next joinedBy) b (within .0) (omega (arith, within .0, within .1, rep .size)) (rec-length kind next joinedBy now-sized)
+  we =
+      write-row headBytes recBytes k (recRow kind next joinedBy) b (within .0)
+      (omega (arith, within .0, within .1, rep .size)) (rec-length kind next joinedBy now-sized)
 
   same-places : (n : List Rec) → map recPlace (n ++ (joinedBy ∷ m)) ≡ map recPlace (n ++ (r ∷ m))
   same-places [] = refl
@@ -279,7 +291,8 @@ module _ (role : ℕ) (s : Store) (v : Valid role s) (b : List ℕ) (rep : Rep s
   heads : put (headRow s) freeCellsAt (first spare ∷ []) ≡ headRow t
   unfolding put
   heads =
-      ap (λ (y : List ℕ). pad headBytes (first (s .free) ∷ first y ∷ first (map recPlace (s .whole)) ∷ first spare ∷ form ∷ s .setup .cells ∷ s .setup .role ∷ []))
+      ap (λ (y : List ℕ). pad headBytes
+      (first (s .free) ∷ first y ∷ first (map recPlace (s .whole)) ∷ first spare ∷ form ∷ s .setup .cells ∷ s .setup .role ∷ []))
       (ap (map recPlace) is ∙ sym (same-places l))
 
   pub insert-rep : Rep t insertBytes

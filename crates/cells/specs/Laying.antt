@@ -9,6 +9,7 @@ use Rattle.machine.specs.Limits.{cutBy}
 use Rattle.machine.specs.Layout.{cellOff, cellRow}
 use Rattle.machine.specs.Pieces.{newCell}
 
--- the first piece of the bytes that are left, of index i, in the cell at place x: it leads on where more bytes follow, the last one to 0
+-- the first piece of the bytes that are left, of index i, in the cell at a place: it leads on where more bytes follow, the last one to 0
 abbrev pub pieceLaid : List ℕ → ℕ → ℕ → List ℕ → List ℕ
-pieceLaid b x i bytes = put b (cellOff x) (cellRow (cond (ltb cutBy (length bytes)) (getD b (cellOff x) 0) 0) (newCell x i (take cutBy bytes)))
+pieceLaid b place i bytes =
+    put b (cellOff place) (cellRow (cond (ltb cutBy (length bytes)) (getD b (cellOff place) 0) 0) (newCell place i (take cutBy bytes)))

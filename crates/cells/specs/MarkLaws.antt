@@ -42,7 +42,8 @@ pub ack-is : (low high : ℕ) (cl : List Cell) (c : Cell) (cm : List Cell) → r
     → map (ackCell (c .index)) (cl ++ (c ∷ cm)) ≡ cl ++ (marked c 0 pieceAcked ∷ cm)
 ack-is low high [] c cm h =
     let r = rising-parts low high c cm h in
-    rw (eq-eqb (c .index) (c .index) refl) (ap (λ (x : List Cell). marked c 0 pieceAcked ∷ x) (ack-others (c .index) (suc (c .index)) high cm (omega arith) (r .2)))
+    rw (eq-eqb (c .index) (c .index) refl)
+    (ap (λ (x : List Cell). marked c 0 pieceAcked ∷ x) (ack-others (c .index) (suc (c .index)) high cm (omega arith) (r .2)))
 ack-is low high (a ∷ cl) c cm h =
     let r = rising-parts low high a (cl ++ (c ∷ cm)) h in
     rw (ne-eqb (a .index) (c .index) (λ e. omega (arith, later (suc (a .index)) high cl c cm (r .2))))
@@ -81,7 +82,8 @@ module _ (role : ℕ) (s : Store) (v : Valid role s) (b : List ℕ) (rep : Rep s
   pub ack-rep : Rep (heldStore s (l ++ (ackPiece (c .index) r ∷ m)) (s .freeCells)) (remarked b (c .place) 0 pieceAcked)
   ack-rep =
       let e : cl ++ (marked c 0 pieceAcked ∷ cm) ≡ map (ackCell (c .index)) (r .cells) =
-      sym (ap (map (ackCell (c .index))) parts ∙ ack-is 0 (r .slots) cl c cm (subst (λ (x : List Cell). rising 0 (r .slots) x ≡ true) parts (fine role s v l r m is .rises))) in
+      sym (ap (map (ackCell (c .index))) parts
+      ∙ ack-is 0 (r .slots) cl c cm (subst (λ (x : List Cell). rising 0 (r .slots) x ≡ true) parts (fine role s v l r m is .rises))) in
       subst (λ (x : List Cell). Rep (with x) (remarked b (c .place) 0 pieceAcked)) e (mark-rep 0 pieceAcked)
 
   -- a due piece is stamped

@@ -2,7 +2,7 @@
 -- Assumes nothing.
 use Prim.Native.Nat.{ℕ, zero, suc, _≤_, _<_}
 use native.Mathlib.Omega.{arith}
-use mathlib.Core.Path.{_≡_, ap}
+use mathlib.Core.Path.{_≡_, ap, _∙_}
 use mathlib.Core.List.{List, [], _∷_, map}
 use lib.ListN.{length, getD}
 use lib.Dec.{eqb}
@@ -12,12 +12,12 @@ use Rattle.octets.specs.PartsLaws.{getD-part}
 use Rattle.machine.specs.Limits.{recBytes, mostCells}
 use Rattle.machine.specs.Values.{Cell}
 use Rattle.machine.specs.Counting.{occurs}
-use Rattle.machine.specs.Layout.{firstCellAt, recOff, recOf, readCells, decode}
+use Rattle.machine.specs.Layout.{countAt, firstCellAt, recOff, recOf, readCells, decode}
 use Rattle.machine.specs.Find.{isSome}
 use Rattle.machine.specs.Pieces.{pieceAt}
 use Rattle.links.specs.Links.{Links}
 use Rattle.links.specs.InRange.{links}
-use Rattle.store.specs.HeldAt.{placeAt, recIn, HeldAt}
+use Rattle.store.specs.HeldAt.{placeAt, rowIn, recIn, HeldAt}
 use Rattle.store.specs.MetLaws.{valid, rep, here-split, here-within}
 use Rattle.cells.specs.InPlace.{pieceState, firstLink, spotIn, holdsIndex, LinkIn}
 use Rattle.cells.specs.HeldLaws.{few-pieces, spot-some}
@@ -33,10 +33,14 @@ occurs-few : (k : ℕ) (l : List Cell) → occurs k (map pieceState l) ≤ lengt
 occurs-few k [] = omega arith
 occurs-few k (c ∷ l) = omega (arith, occurs-few k l, one-le (eqb k (c .state)))
 
--- the pieces of the record that a link leads to are read from its first link on
-pub cells-here : (b : List ℕ) (at : ℕ) → recIn b at .cells ≡ readCells b (getD b (firstLink (placeAt b at)) 0)
-unfolding recOf
-cells-here b at = ap (readCells b) (getD-part b (recOff (placeAt b at)) recBytes firstCellAt (omega arith))
+-- x is the first cell of the record that a link leads to: it is where the record's first link leads, and its pieces are read from there on
+module _ (b : List ℕ) (at : ℕ) {x : ℕ} (e : x ≡ getD (rowIn b at) firstCellAt 0) where
+  pub first-here : x ≡ getD b (firstLink (placeAt b at)) 0
+  first-here = e ∙ getD-part b (recOff (placeAt b at)) recBytes firstCellAt (omega arith)
+
+  pub cells-here : readCells b x ≡ recIn b at .cells
+  unfolding recOf
+  cells-here = ap (readCells b) e
 
 module _ (role : ℕ) (b : List ℕ) (y : Bytes b) (at : ℕ) (h : HeldAt role b at) where
   -- every link is in range
@@ -52,6 +56,10 @@ module _ (role : ℕ) (b : List ℕ) (y : Bytes b) (at : ℕ) (h : HeldAt role b
   here-first =
       let w = here-within role b y at h in
       record { inside = omega (arith, here-links .long, w .0, w .1); leads = here-links .firsts (placeAt b at) (w .0) (w .1) }
+
+  -- which is a cell or none
+  pub first-inside : {x : ℕ} → x ≡ getD (rowIn b at) firstCellAt 0 → x ≤ getD b countAt 0
+  first-inside e = omega (arith, first-here b at e, here-first .leads)
 
   -- how many pieces there are, and how many have a state
   pub here-few : length (recIn b at .cells) ≤ mostCells

@@ -42,7 +42,8 @@ pub record Led (k p : ℕ) (l : List Cell) (b b′ : List ℕ) : Type 0 where
 
 pub lead-on : (C k p x : ℕ) (l : List Cell) (b : List ℕ) → 0 < k → k ≤ recCount → length b ≡ storeBytes C
     → All (λ (a : Cell). (0 < a .place) × (a .place ≤ C)) l → ((j : ℕ) → occurs j (map cellPlace l) ≤ 1)
-    → getD b (firstLink k) 0 ≡ lead x (map cellPlace l) → Held (cellAt b) (rowsTo cellPlace cellRow x l) → Led k p l b (put b (linkBehind (firstLink k) l) (p ∷ []))
+    → getD b (firstLink k) 0 ≡ lead x (map cellPlace l) → Held (cellAt b) (rowsTo cellPlace cellRow x l)
+    → Led k p l b (put b (linkBehind (firstLink k) l) (p ∷ []))
 unfolding linkAt
 lead-on C k p x [] b a g size i u e h =
     let d : List ℕ = put b (firstLink k) (p ∷ []) in
@@ -61,7 +62,8 @@ lead-on C k p x (a ∷ l) b y g size i u e h =
     let stand : All (λ (c : Cell). (0 < c .place) × (storeBytes 0 + cellBytes * (suc (c .place) - 1) ≤ length b)) (a ∷ l) =
     all-to (λ (c : Cell). (0 < c .place) × (c .place ≤ C)) (λ (c : Cell). (0 < c .place) × (storeBytes 0 + cellBytes * (suc (c .place) - 1) ≤ length b)) (a ∷ l)
     (λ c z. (z .0, omega (arith, z .0, z .1))) i in
-    let last = last-has cellPlace cellRow (storeBytes 0) cellBytes (λ (c : Cell). (0 < c .place) × (storeBytes 0 + cellBytes * (suc (c .place) - 1) ≤ length b)) a l stand in
+    let last = last-has cellPlace cellRow (storeBytes 0) cellBytes
+    (λ (c : Cell). (0 < c .place) × (storeBytes 0 + cellBytes * (suc (c .place) - 1) ≤ length b)) a l stand in
     let n : ℕ = cellPlace (lastOf cellPlace cellRow (storeBytes 0) cellBytes a l) in
     let d : List ℕ = put b (linkBehind q (a ∷ l)) (p ∷ []) in
     let row : List ℕ = put (cellAt b n) 0 (p ∷ []) in
@@ -70,7 +72,8 @@ lead-on C k p x (a ∷ l) b y g size i u e h =
       long = w .long;
       head = cell-leaves-head n row b d w;
       own = cell-leaves-recs n row b d w k g
-          ∙ sym (put-same (recAt b k) firstCellAt (a .place) (omega (arith, length-part b (recOff k) recBytes (omega arith))) (getD-part b (recOff k) recBytes firstCellAt (omega arith) ∙ e));
+          ∙ sym (put-same (recAt b k) firstCellAt (a .place) (omega (arith, length-part b (recOff k) recBytes (omega arith)))
+          (getD-part b (recOff k) recBytes firstCellAt (omega arith) ∙ e));
       others = λ j s z o. cell-leaves-recs n row b d w j z;
       chain = relink cellPlace cellRow (storeBytes 0) cellBytes cellTail cell-parts b p q x (a ∷ l) (omega arith) stand u h;
       rows = λ lines s z o. link-stay cellPlace cellRow (storeBytes 0) cellBytes cellTail cell-parts b p q a l lines (omega arith) (last .0) (last .1) s

@@ -91,7 +91,8 @@ module _ (b : List ℕ) where
       (λ e. rw e (spot-chained (cellOff (c .place)) i l (chained-rest at c l h)))
 
   -- a piece at the index is the first of them
-  pub spot-holds : (at i low high : ℕ) (l : List Cell) → Chained at l → rising low high l ≡ true → holdsIndex b (linkBehind at (below i l)) i ≡ isSome (pieceAt i l)
+  pub spot-holds : (at i low high : ℕ) (l : List Cell) → Chained at l → rising low high l ≡ true
+      → holdsIndex b (linkBehind at (below i l)) i ≡ isSome (pieceAt i l)
   unfolding below linkAt find
   spot-holds at i low high [] h r = rw (h .leads)
   spot-holds at i low high (c ∷ l) h r =

@@ -12,13 +12,15 @@ ghost use Rattle.machine.specs.Layout.{encode, decode};
 ghost use Rattle.machine.specs.Send.{ackPiece, change};
 ghost use Rattle.store.specs.HeldAt.{recIn, keyIn, HeldAt};
 
-// The piece at an index of the held record whose link stands at byte `at` becomes Acked.
-pub fn ack(store: &mut [u8], at: usize, index: u64)
-    requires { ⌜ HeldAt roleSend (now store) at × (index < length (recIn (now store) at .cells)) ⌝ }
-    ensures { λ _. ⌜ now (store .exit) ≡ encode (change (ackPiece index) (keyIn (now (store .entry)) at) (decode (now (store .entry)))) ⌝ }
+// The piece at an index of the held record whose link stands at byte `link` becomes Acked.
+pub fn ack(store: &mut [u8], link: usize, index: u64)
+    requires { ⌜ HeldAt roleSend (now store) link × (index < length (recIn (now store) link .cells)) ⌝ }
+    ensures { λ _.
+        let b = now (store .entry) in
+        ⌜ now (store .exit) ≡ encode (change (ackPiece index) (keyIn b link) (decode b)) ⌝ }
 {
-    let from = first_link(store, at);
-    let link = spot(store, from, index);
-    let cell = small(store[link]);
-    mark(store, cell, 0, ACKED);
+    let first = first_link(store, link);
+    let found = spot(store, first, index);
+    let place = small(store[found]);
+    mark(store, place, 0, ACKED);
 }

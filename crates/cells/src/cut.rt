@@ -4,6 +4,7 @@ use octets::copy_in;
 use octets::small;
 use rows::cell::cell_at;
 use rows::head::Head;
+use rows::message::CUT_BYTES;
 ghost use mathlib.Core.Path.{_≡_};
 ghost use mathlib.Core.Bool.{true};
 ghost use Prim.Native.Nat.{_≤_};
@@ -17,19 +18,19 @@ ghost use Rattle.links.specs.Cut.{cutBytes};
 ghost use Rattle.cells.specs.InPlace.{CellIn};
 ghost use Rattle.cells.specs.Laying.{pieceLaid};
 
-// Data is cut by so many bytes.
-const CUT_BY: usize = rows::message::CUT as usize;
-
-// The first piece of the bytes that are left, in a free cell; answers the next free cell, to which it leads where more bytes follow.
-fn lay(store: &mut [u8], cell: u8, index: u8, bytes: &[u8]) -> u8
-    requires { ⌜ CellIn (now store) cell ⌝ }
-    ensures { λ r. ⌜ (r ≡ getD (now (store .entry)) (cellOff cell) 0) × (now (store .exit) ≡ pieceLaid (now (store .entry)) cell index (now (bytes .entry))) ⌝ }
+// The first piece of the bytes that are left, in the free cell at a place; answers the link to the next free cell, where it
+// leads too if more bytes follow.
+fn lay(store: &mut [u8], place: usize, index: u8, bytes: &[u8]) -> u8
+    requires { ⌜ CellIn (now store) place ⌝ }
+    ensures { λ r.
+        let b = now (store .entry) in
+        ⌜ (r ≡ getD b (cellOff place) 0)
+        × (now (store .exit) ≡ pieceLaid b place index (now (bytes .entry))) ⌝ }
 {
-    let place = small(cell);
     let row = cell_at(place);
     let next = store[row];
-    if bytes.len() > CUT_BY {
-        put_cell(store, place, next, index, &bytes[..CUT_BY]);
+    if bytes.len() > CUT_BYTES {
+        put_cell(store, place, next, index, &bytes[..CUT_BYTES]);
     } else {
         put_cell(store, place, 0, index, bytes);
     }
@@ -38,16 +39,22 @@ fn lay(store: &mut [u8], cell: u8, index: u8, bytes: &[u8]) -> u8
 
 // The pieces of the bytes, in the first free cells.
 pub fn cut(store: &mut [u8], bytes: &[u8])
-    requires { ⌜ (sound roleSend (now store) ≡ true) × (length (now bytes) ≤ longest) × (slotsOf (length (now bytes)) ≤ length (decode (now store) .freeCells)) ⌝ }
-    ensures { λ _. ⌜ now (store .exit) ≡ cutBytes (now (store .entry)) (cutPieces (slotsOf (length (now (bytes .entry)))) 0 (decode (now (store .entry)) .freeCells) (now (bytes .entry))) (drop (slotsOf (length (now (bytes .entry)))) (decode (now (store .entry)) .freeCells)) ⌝ }
+    requires { ⌜ (sound roleSend (now store) ≡ true) × (length (now bytes) ≤ longest)
+        × (slotsOf (length (now bytes)) ≤ length (decode (now store) .freeCells)) ⌝ }
+    ensures { λ _.
+        let b = now (store .entry) in
+        let d = now (bytes .entry) in
+        let n = slotsOf (length d) in
+        let free = decode b .freeCells in
+        ⌜ now (store .exit) ≡ cutBytes b (cutPieces n 0 free d) (drop n free) ⌝ }
 {
     let mut free = store[Head::FREE_CELLS];
     let mut index: u8 = 0;
     let mut at: usize = 0;
     while at < bytes.len() {
-        free = lay(store, free, index, &bytes[at..]);
+        free = lay(store, small(free), index, &bytes[at..]);
         index += 1;
-        at += CUT_BY;
+        at += CUT_BYTES;
     }
     let rest = [free];
     copy_in(store, Head::FREE_CELLS, &rest);

@@ -1,7 +1,6 @@
 // A piece comes to its record: in its own cell where its index is held, and else in the first free cell, in index order.
 use crate::row::put_cell;
 use crate::row::rewrite;
-use crate::walk::spot;
 use octets::copy_in;
 use octets::small;
 use octets::wide;
@@ -21,8 +20,8 @@ ghost use Rattle.machine.specs.Receive.{chunkStep};
 ghost use Rattle.machine.specs.Packet.{cellsNeeded};
 ghost use Rattle.packet.specs.Frame.{largestPiece};
 ghost use Rattle.links.specs.Links.{Links};
-ghost use Rattle.store.specs.HeldAt.{recIn, keyIn, HeldAt};
-ghost use Rattle.cells.specs.InPlace.{spotIn, holdsIndex, grown, inserted, chunked, LinkIn, PieceFits};
+ghost use Rattle.store.specs.HeldAt.{placeAt, recIn, keyIn, HeldAt};
+ghost use Rattle.cells.specs.InPlace.{holdsIndex, grown, inserted, chunked, LinkIn, Spot, PieceFits};
 
 // The larger of two numbers.
 fn larger(a: u64, b: u64) -> u64
@@ -33,7 +32,8 @@ fn larger(a: u64, b: u64) -> u64
 
 // A record's slots, grown to index + 1.
 pub fn grow(store: &mut [u8], place: usize, index: u64)
-    requires { ⌜ (1 ≤ place) × (place ≤ recCount) × (recOff place + recBytes ≤ length (now store)) × (index + 1 < 256) ⌝ }
+    requires { ⌜ (1 ≤ place) × (place ≤ recCount) × (recOff place + recBytes ≤ length (now store))
+        × (index + 1 < 256) ⌝ }
     ensures { λ _. ⌜ now (store .exit) ≡ grown (now (store .entry)) place index ⌝ }
 {
     let at = record_at(place) + Record::SLOTS;
@@ -47,23 +47,24 @@ pub fn holds(store: &[u8], link: usize, index: u64) -> bool
     requires { ⌜ Links (now store) × LinkIn (now store) link ⌝ }
     ensures { λ r. ⌜ r ≡ holdsIndex (now (store .entry)) link index ⌝ }
 {
-    let cell = small(store[link]);
-    if cell == 0 {
+    let place = small(store[link]);
+    if place == 0 {
         return false;
     }
-    let at = cell_at(cell);
-    index == wide(store[at + Cell::INDEX])
+    let row = cell_at(place);
+    index == wide(store[row + Cell::INDEX])
 }
 
 // A new piece in the first free cell, put into the record's chain at the link at byte `link`.
 pub fn insert(store: &mut [u8], place: usize, link: usize, index: u64, bytes: &[u8])
-    requires { ⌜ Links (now store) × LinkIn (now store) link × PieceFits place index (length (now bytes)) × (0 < getD (now store) freeCellsAt 0) ⌝ }
+    requires { let b = now store in
+        ⌜ Links b × LinkIn b link × PieceFits place index (length (now bytes)) × (0 < getD b freeCellsAt 0) ⌝ }
     ensures { λ _. ⌜ now (store .exit) ≡ inserted (now (store .entry)) place link index (now (bytes .entry)) ⌝ }
 {
     let free = store[Head::FREE_CELLS];
     let cell = small(free);
-    let at = cell_at(cell);
-    let after = store[at];
+    let row = cell_at(cell);
+    let after = store[row];
     let next = store[link];
     grow(store, place, index);
     put_cell(store, cell, next, index as u8, bytes);
@@ -73,13 +74,13 @@ pub fn insert(store: &mut [u8], place: usize, link: usize, index: u64, bytes: &[
     copy_in(store, link, &here);
 }
 
-// A piece of the record at a place, at a new index or at one that is held.
-fn put_in(store: &mut [u8], place: usize, index: u64, bytes: &[u8])
-    requires { ⌜ Links (now store) × PieceFits place index (length (now bytes)) × (holdsIndex (now store) (spotIn (now store) place index) index ≡ false → 0 < getD (now store) freeCellsAt 0) ⌝ }
+// A piece of the record at a place, at a new index or at one that is held, by the link that was found for it.
+fn put_in(store: &mut [u8], place: usize, link: usize, index: u64, bytes: &[u8])
+    requires { let b = now store in
+        ⌜ Links b × Spot b place index link × PieceFits place index (length (now bytes))
+        × (holdsIndex b link index ≡ false → 0 < getD b freeCellsAt 0) ⌝ }
     ensures { λ _. ⌜ now (store .exit) ≡ chunked (now (store .entry)) place index (now (bytes .entry)) ⌝ }
 {
-    let from = record_at(place) + Record::FIRST_CELL;
-    let link = spot(store, from, index);
     if holds(store, link, index) {
         let cell = small(store[link]);
         rewrite(store, cell, bytes);
@@ -88,11 +89,16 @@ fn put_in(store: &mut [u8], place: usize, index: u64, bytes: &[u8])
     }
 }
 
-// A piece of the held record whose link stands at byte `at`.
-pub fn put_piece(store: &mut [u8], at: usize, index: u64, bytes: &[u8])
-    requires { ⌜ HeldAt roleReceive (now store) at × (index ≤ topOf (recIn (now store) at .label .total)) × (cellsNeeded index (recIn (now store) at) ≤ length (decode (now store) .freeCells)) × (length (now bytes) ≤ largestPiece) ⌝ }
-    ensures { λ _. ⌜ now (store .exit) ≡ encode (chunkStep (keyIn (now (store .entry)) at) index (now (bytes .entry)) (decode (now (store .entry)))) ⌝ }
+// A piece of the held record whose link stands at byte `link`; `spot` is the link that was found for the piece.
+pub fn put_piece(store: &mut [u8], link: usize, spot: usize, index: u64, bytes: &[u8])
+    requires { let b = now store in
+        let r = recIn b link in
+        ⌜ HeldAt roleReceive b link × Spot b (placeAt b link) index spot × (index ≤ topOf (r .label .total))
+        × (cellsNeeded index r ≤ length (decode b .freeCells)) × (length (now bytes) ≤ largestPiece) ⌝ }
+    ensures { λ _.
+        let b = now (store .entry) in
+        ⌜ now (store .exit) ≡ encode (chunkStep (keyIn b link) index (now (bytes .entry)) (decode b)) ⌝ }
 {
-    let place = small(store[at]);
-    put_in(store, place, index, bytes);
+    let place = small(store[link]);
+    put_in(store, place, spot, index, bytes);
 }

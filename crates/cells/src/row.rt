@@ -16,38 +16,40 @@ ghost use Rattle.packet.specs.Frame.{largestPiece};
 ghost use Rattle.cells.specs.InPlace.{rewritten, remarked, CellIn};
 
 // A cell's whole row, with a piece that has just come; zeros past the piece.
-pub fn put_cell(store: &mut [u8], cell: usize, next: u8, index: u8, bytes: &[u8])
-    requires { ⌜ CellIn (now store) cell × (length (now bytes) ≤ largestPiece) ⌝ }
-    ensures { λ _. ⌜ now (store .exit) ≡ put (now (store .entry)) (cellOff cell) (cellRow next (newCell cell index (now (bytes .entry)))) ⌝ }
+pub fn put_cell(store: &mut [u8], place: usize, next: u8, index: u8, bytes: &[u8])
+    requires { ⌜ CellIn (now store) place × (length (now bytes) ≤ largestPiece) ⌝ }
+    ensures { λ _.
+        let row = cellRow next (newCell place index (now (bytes .entry))) in
+        ⌜ now (store .exit) ≡ put (now (store .entry)) (cellOff place) row ⌝ }
 {
-    let at = cell_at(cell);
+    let row = cell_at(place);
     let size = bytes.len();
     let front = [next, index];
-    copy_in(store, at, &front);
-    put16(store, at + Cell::SIZE, size as u64);
-    fill(store, at + Cell::STAMP, Cell::PIECE - Cell::STAMP, 0);
-    copy_in(store, at + Cell::PIECE, bytes);
-    fill(store, at + Cell::PIECE + size, LARGEST - size, 0);
+    copy_in(store, row, &front);
+    put16(store, row + Cell::SIZE, size as u64);
+    fill(store, row + Cell::STAMP, Cell::PIECE - Cell::STAMP, 0);
+    copy_in(store, row + Cell::PIECE, bytes);
+    fill(store, row + Cell::PIECE + size, LARGEST - size, 0);
 }
 
 // A piece replaced in its own cell, which keeps its link and its index.
-pub fn rewrite(store: &mut [u8], cell: usize, bytes: &[u8])
-    requires { ⌜ CellIn (now store) cell × (length (now bytes) ≤ largestPiece) ⌝ }
-    ensures { λ _. ⌜ now (store .exit) ≡ rewritten (now (store .entry)) cell (now (bytes .entry)) ⌝ }
+pub fn rewrite(store: &mut [u8], place: usize, bytes: &[u8])
+    requires { ⌜ CellIn (now store) place × (length (now bytes) ≤ largestPiece) ⌝ }
+    ensures { λ _. ⌜ now (store .exit) ≡ rewritten (now (store .entry)) place (now (bytes .entry)) ⌝ }
 {
-    let at = cell_at(cell);
-    let next = store[at];
-    let index = store[at + Cell::INDEX];
-    put_cell(store, cell, next, index, bytes);
+    let row = cell_at(place);
+    let next = store[row];
+    let index = store[row + Cell::INDEX];
+    put_cell(store, place, next, index, bytes);
 }
 
 // A piece's stamp and state.
-pub fn mark(store: &mut [u8], cell: usize, stamp: u64, state: u8)
-    requires { ⌜ CellIn (now store) cell ⌝ }
-    ensures { λ _. ⌜ now (store .exit) ≡ remarked (now (store .entry)) cell stamp state ⌝ }
+pub fn mark(store: &mut [u8], place: usize, stamp: u64, state: u8)
+    requires { ⌜ CellIn (now store) place ⌝ }
+    ensures { λ _. ⌜ now (store .exit) ≡ remarked (now (store .entry)) place stamp state ⌝ }
 {
-    let at = cell_at(cell);
-    put64(store, at + Cell::STAMP, stamp);
+    let row = cell_at(place);
+    put64(store, row + Cell::STAMP, stamp);
     let one = [state];
-    copy_in(store, at + Cell::STATE, &one);
+    copy_in(store, row + Cell::STATE, &one);
 }

@@ -1,4 +1,5 @@
-// Walks along a chain of cells: the spot of an index, the pieces joined, and how many cells, bytes and pieces of a state there are.
+// Walks along a chain of cells: the spot of an index, the pieces joined, and how many cells, bytes and pieces of a state
+// there are.
 use octets::copy_in;
 use octets::get16;
 use octets::small;
@@ -9,11 +10,12 @@ use rows::cell::cell_at;
 use rows::head::Head;
 ghost use mathlib.Core.Path.{_≡_};
 ghost use mathlib.Core.List.{map};
-ghost use Prim.Native.Nat.{_+_, _≤_};
+ghost use Prim.Native.Nat.{suc, _+_, _≤_};
 ghost use lib.ListN.{length, getD};
 ghost use lib.Dec.{eqb};
 ghost use Rattle.octets.specs.Bools.{one};
 ghost use Rattle.octets.specs.Octets.{put};
+ghost use Rattle.machine.specs.Limits.{mostCells};
 ghost use Rattle.machine.specs.Counting.{occurs};
 ghost use Rattle.machine.specs.Layout.{countAt, freeCellsAt, cellChain, readCell, readCells};
 ghost use Rattle.machine.specs.Sound.{sizes};
@@ -21,36 +23,43 @@ ghost use Rattle.machine.specs.Pieces.{joined};
 ghost use Rattle.links.specs.Links.{Links};
 ghost use Rattle.cells.specs.InPlace.{pieceState, spotFrom, LinkIn};
 
-// From the link at byte `at` on, the byte of the link to the first cell whose index is not below `index`, or of the 0 that ends the chain.
-pub fn spot(store: &[u8], at: usize, index: u64) -> usize
-    requires { ⌜ Links (now store) × LinkIn (now store) at ⌝ }
-    ensures { λ r. ⌜ (r ≡ spotFrom (now (store .entry)) 46 at index) × LinkIn (now (store .entry)) r ⌝ }
+// From the link at byte `link` on, the byte of the link to the first cell whose index is not below `index`, or of the 0 that
+// ends the chain.
+pub fn spot(store: &[u8], link: usize, index: u64) -> usize
+    requires { ⌜ Links (now store) × LinkIn (now store) link ⌝ }
+    ensures { λ r.
+        let b = now (store .entry) in
+        ⌜ (r ≡ spotFrom b (suc mostCells) link index) × LinkIn b r ⌝ }
 {
-    let mut link = at;
+    let mut here = link;
     let mut n: usize = 0;
     while n < STEPS {
-        let x = small(store[link]);
-        if x == 0 {
-            return link;
+        let place = small(store[here]);
+        if place == 0 {
+            return here;
         }
-        let cell = cell_at(x);
-        if index <= wide(store[cell + Cell::INDEX]) {
-            return link;
+        let row = cell_at(place);
+        if index <= wide(store[row + Cell::INDEX]) {
+            return here;
         }
-        link = cell;
+        here = row;
         n += 1;
     }
-    link
+    here
 }
 
-// A piece's bytes, copied into `out` from `at` on; answers where they end.
-fn copy_piece(store: &[u8], cell: usize, out: &mut [u8], at: usize) -> usize
-    requires { ⌜ Links (now store) × ((1 ≤ cell) × (cell ≤ getD (now store) countAt 0)) × (at + length (readCell (now store) cell .bytes) ≤ length (now out)) ⌝ }
-    ensures { λ r. ⌜ (r ≡ at + length (readCell (now (store .entry)) cell .bytes)) × (now (out .exit) ≡ put (now (out .entry)) at (readCell (now (store .entry)) cell .bytes)) ⌝ }
+// The bytes of the piece in the cell at a place, copied into `out` from `at` on; answers where they end.
+fn copy_piece(store: &[u8], place: usize, out: &mut [u8], at: usize) -> usize
+    requires { let b = now store in
+        ⌜ Links b × ((1 ≤ place) × (place ≤ getD b countAt 0))
+        × (at + length (readCell b place .bytes) ≤ length (now out)) ⌝ }
+    ensures { λ r.
+        let bytes = readCell (now (store .entry)) place .bytes in
+        ⌜ (r ≡ at + length bytes) × (now (out .exit) ≡ put (now (out .entry)) at bytes) ⌝ }
 {
-    let from = cell_at(cell);
-    let size = get16(store, from + Cell::SIZE) as usize;
-    let start = from + Cell::PIECE;
+    let row = cell_at(place);
+    let size = get16(store, row + Cell::SIZE) as usize;
+    let start = row + Cell::PIECE;
     let end = start + size;
     copy_in(out, at, &store[start..end]);
     at + size
@@ -58,19 +67,22 @@ fn copy_piece(store: &[u8], cell: usize, out: &mut [u8], at: usize) -> usize
 
 // The pieces from the cell `first` on, joined in `out`; answers how many bytes they have together.
 pub fn join(store: &[u8], first: usize, out: &mut [u8]) -> usize
-    requires { ⌜ Links (now store) × (first ≤ getD (now store) countAt 0) × (sizes (readCells (now store) first) ≤ length (now out)) ⌝ }
-    ensures { λ r. ⌜ (r ≡ sizes (readCells (now (store .entry)) first)) × (now (out .exit) ≡ put (now (out .entry)) 0 (joined (readCells (now (store .entry)) first))) ⌝ }
+    requires { let b = now store in
+        ⌜ Links b × (first ≤ getD b countAt 0) × (sizes (readCells b first) ≤ length (now out)) ⌝ }
+    ensures { λ r.
+        let cells = readCells (now (store .entry)) first in
+        ⌜ (r ≡ sizes cells) × (now (out .exit) ≡ put (now (out .entry)) 0 (joined cells)) ⌝ }
 {
-    let mut x = first;
+    let mut place = first;
     let mut at: usize = 0;
     let mut n: usize = 0;
     while n < STEPS {
-        if x == 0 {
+        if place == 0 {
             return at;
         }
-        at = copy_piece(store, x, out, at);
-        let cell = cell_at(x);
-        x = small(store[cell]);
+        at = copy_piece(store, place, out, at);
+        let row = cell_at(place);
+        place = small(store[row]);
         n += 1;
     }
     at
@@ -88,16 +100,16 @@ pub fn count(store: &[u8], first: usize, state: u8) -> u64
     requires { ⌜ Links (now store) × (first ≤ getD (now store) countAt 0) ⌝ }
     ensures { λ r. ⌜ r ≡ occurs state (map pieceState (readCells (now (store .entry)) first)) ⌝ }
 {
-    let mut x = first;
+    let mut place = first;
     let mut found: u64 = 0;
     let mut n: usize = 0;
     while n < STEPS {
-        if x == 0 {
+        if place == 0 {
             return found;
         }
-        let cell = cell_at(x);
-        found = found + same(state, store[cell + Cell::STATE]);
-        x = small(store[cell]);
+        let row = cell_at(place);
+        found = found + same(state, store[row + Cell::STATE]);
+        place = small(store[row]);
         n += 1;
     }
     found
@@ -106,17 +118,17 @@ pub fn count(store: &[u8], first: usize, state: u8) -> u64
 // How many cells there are from the cell `first` on.
 pub fn cells(store: &[u8], first: usize) -> u64
     requires { ⌜ Links (now store) × (first ≤ getD (now store) countAt 0) ⌝ }
-    ensures { λ r. ⌜ (r ≡ length (readCells (now (store .entry)) first)) × (r ≤ 46) ⌝ }
+    ensures { λ r. ⌜ (r ≡ length (readCells (now (store .entry)) first)) × (r ≤ suc mostCells) ⌝ }
 {
-    let mut x = first;
+    let mut place = first;
     let mut found: u64 = 0;
     let mut n: usize = 0;
     while n < STEPS {
-        if x == 0 {
+        if place == 0 {
             return found;
         }
-        let cell = cell_at(x);
-        x = small(store[cell]);
+        let row = cell_at(place);
+        place = small(store[row]);
         found += 1;
         n += 1;
     }
@@ -128,16 +140,16 @@ pub fn total(store: &[u8], first: usize) -> u64
     requires { ⌜ Links (now store) × (first ≤ getD (now store) countAt 0) ⌝ }
     ensures { λ r. ⌜ r ≡ sizes (readCells (now (store .entry)) first) ⌝ }
 {
-    let mut x = first;
+    let mut place = first;
     let mut sum: u64 = 0;
     let mut n: usize = 0;
     while n < STEPS {
-        if x == 0 {
+        if place == 0 {
             return sum;
         }
-        let cell = cell_at(x);
-        sum = sum + get16(store, cell + Cell::SIZE);
-        x = small(store[cell]);
+        let row = cell_at(place);
+        sum = sum + get16(store, row + Cell::SIZE);
+        place = small(store[row]);
         n += 1;
     }
     sum
@@ -146,7 +158,9 @@ pub fn total(store: &[u8], first: usize) -> u64
 // How many cells are free.
 pub fn count_free(store: &[u8]) -> u64
     requires { ⌜ Links (now store) ⌝ }
-    ensures { λ r. ⌜ (r ≡ length (cellChain (now (store .entry)) (getD (now (store .entry)) freeCellsAt 0))) × (r ≤ 46) ⌝ }
+    ensures { λ r.
+        let b = now (store .entry) in
+        ⌜ (r ≡ length (cellChain b (getD b freeCellsAt 0))) × (r ≤ suc mostCells) ⌝ }
 {
     cells(store, small(store[Head::FREE_CELLS]))
 }

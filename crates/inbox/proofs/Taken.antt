@@ -22,7 +22,7 @@ use Rattle.machine.specs.Take.{takeRoom, takenRoom, oldestRow, takeAt, takenByt
 use Rattle.store.specs.RefuseLaws.{next, stop, clear}
 use Rattle.store.specs.HeldAt.{rowIn, recIn}
 use Rattle.inbox.specs.OldestLaws.{none-whole, some-whole, oldest-sized}
-use Rattle.inbox.specs.Arrives.{Oldest}
+use Rattle.inbox.specs.Oldest.{Oldest}
 
 module _ (b taken out : List ℕ) where
   abbrev row : ℕ
@@ -80,5 +80,12 @@ module _ (b taken out : List ℕ) where
         unfolding takenBytes takeOut recOf
         taken-out m k w b′ taken′ out′ e f g p q s =
             (λ i. record { number = p i; run = (q ∙ sym long) i; wake = s i; recv = e i; taken = f i; out = g i })
-            ∙ (λ i. record { number = 0; run = length (takeOut (sym (some-whole b some) i)); wake = 0; recv = encode (takeStep (decode b)); taken = put taken 0 (takenBytes b (sym (some-whole b some) i)); out = put out 0 (takeOut (sym (some-whole b some) i)) })
+            ∙ ap (λ (l : List Rec). record {
+              number = 0;
+              run = length (takeOut l);
+              wake = 0;
+              recv = encode (takeStep (decode b));
+              taken = put taken 0 (takenBytes b l);
+              out = put out 0 (takeOut l);
+            }) (sym (some-whole b some))
             ∙ ap (λ (n : ℕ). takeAt n (decode b .whole) b taken out) (sym clears)

@@ -1,2 +1,2 @@
-pub mod Arrives
+pub mod Oldest
 pub mod OldestLaws

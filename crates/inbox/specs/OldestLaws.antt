@@ -22,7 +22,7 @@ use Rattle.laws.specs.SoundValid.{sound-valid}
 use Rattle.links.specs.Links.{Links}
 use Rattle.links.specs.InRange.{links}
 use Rattle.store.specs.HeldAt.{placeAt, rowIn, recIn, Reached}
-use Rattle.inbox.specs.Arrives.{Oldest}
+use Rattle.inbox.specs.Oldest.{Oldest}
 
 -- the whole records, as their chain starts
 pub none-whole : (b : List ℕ) → getD b wholeAt 0 ≡ 0 → decode b .whole ≡ []

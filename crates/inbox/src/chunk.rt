@@ -1,6 +1,5 @@
 // Chunk: a piece of a message comes.
 
-use packet::reader;
 use rows::message;
 use store::field;
 use store::find;
@@ -8,15 +7,16 @@ ghost use mathlib.Core.Path.{_≡_};
 ghost use Prim.Native.Nat.{_+_, _≤_};
 ghost use lib.ListN.{length};
 ghost use lib.Dec.{leb};
-ghost use Rattle.packet.specs.Frame.{idOf, chunkIndex, chunkOffset, chunkSize, piece};
+ghost use Rattle.packet.specs.Frame.{largestPiece};
 ghost use Rattle.machine.specs.Limits.{longest};
 ghost use Rattle.machine.specs.Codes.{roleReceive};
 ghost use Rattle.machine.specs.Layout.{decode};
 ghost use Rattle.machine.specs.Receive.{found, chunkStep};
-ghost use Rattle.machine.specs.Refusals.{refusal};
-ghost use Rattle.machine.specs.Packet.{frameBytes, chunkRow, tooShort, cellsNeeded};
-ghost use Rattle.store.specs.HeldAt.{metAt, recIn, HeldAt, Searched, Receives};
+ghost use Rattle.machine.specs.Refusals.{refusal, asksOf};
+ghost use Rattle.machine.specs.Packet.{chunkRow, tooShort, cellsNeeded, pieceRow};
+ghost use Rattle.store.specs.HeldAt.{metAt, placeAt, recIn, HeldAt, Searched, Receives};
 ghost use Rattle.store.specs.Step.{stepped};
+ghost use Rattle.cells.specs.InPlace.{Spot};
 
 // Row 9: whether the piece ends inside the message.
 fn fits(offset: u64, size: u64, total: u64) -> bool
@@ -37,20 +37,22 @@ fn too_short(total: u64, index: u64, offset: u64, size: u64) -> bool
 }
 
 // Row 12: whether there is a cell for the piece, its own or a free one.
-fn has_cell(recv: &[u8], at: usize, index: u64) -> bool
-    requires { ⌜ HeldAt roleReceive (now recv) at ⌝ }
-    ensures { λ r. ⌜ r ≡ leb (cellsNeeded index (recIn (now (recv .entry)) at)) (length (decode (now (recv .entry)) .freeCells)) ⌝ }
+fn has_cell(recv: &[u8], at: usize, link: usize, index: u64) -> bool
+    requires { ⌜ HeldAt roleReceive (now recv) at × Spot (now recv) (placeAt (now recv) at) index link ⌝ }
+    ensures { λ r.
+        let b = now (recv .entry) in
+        ⌜ r ≡ leb (cellsNeeded index (recIn b at)) (length (decode b .freeCells)) ⌝ }
 {
-    if cells::pieces::has_piece(recv, at, index) {
+    if cells::pieces::has_piece(recv, at, link, index) {
         return true;
     }
     find::is_free_cell(recv)
 }
 
-// Rows 8 to 12: the refusal of a chunk of the record that was searched for.
+// Rows 8 to 11: the refusal of a chunk of the record that was searched for.
 fn refusal(recv: &[u8], at: usize, index: u64, offset: u64, size: u64) -> u64
     requires { ⌜ Searched roleReceive (now recv) at ⌝ }
-    ensures { λ r. ⌜ r ≡ refusal (chunkRow index offset size (decode (now (recv .entry))) (metAt (now (recv .entry)) at)) ⌝ }
+    ensures { λ r. ⌜ r ≡ refusal (asksOf (metAt (now (recv .entry)) at) (pieceRow index offset size)) ⌝ }
 {
     if recv[at] == 0 {
         return answer::UNKNOWN_ID;
@@ -65,29 +67,29 @@ fn refusal(recv: &[u8], at: usize, index: u64, offset: u64, size: u64) -> u64
     if too_short(total, index, offset, size) {
         return answer::SHORT_PIECE;
     }
-    if !has_cell(recv, at, index) {
-        return answer::NO_CELL;
-    }
     answer::DONE
 }
 
 // Chunk: the number, and the store with the piece in it.
-pub fn chunk(recv: &mut [u8], frame: &[u8]) -> u64
-    requires { ⌜ Receives (now recv) × (length (now frame) ≡ frameBytes) ⌝ }
-    ensures { λ r. ⌜ record { number = r; store = now (recv .exit) } ≡ stepped (refusal (chunkRow (chunkIndex (now (frame .entry))) (chunkOffset (now (frame .entry))) (chunkSize (now (frame .entry))) (decode (now (recv .entry))) (found (idOf (now (frame .entry))) (decode (now (recv .entry)) .held)))) (chunkStep (idOf (now (frame .entry))) (chunkIndex (now (frame .entry))) (piece (now (frame .entry))) (decode (now (recv .entry)))) (now (recv .entry)) ⌝ }
+pub fn chunk(recv: &mut [u8], id: &[u8], index: u64, offset: u64, piece: &[u8]) -> u64
+    requires { ⌜ Receives (now recv) × (length (now piece) ≤ largestPiece) ⌝ }
+    ensures { λ r.
+        let b = now (recv .entry) in
+        let k = now (id .entry) in
+        let p = now (piece .entry) in
+        let s = decode b in
+        ⌜ record { number = r; store = now (recv .exit) }
+        ≡ stepped (refusal (chunkRow index offset (length p) s (found k (s .held)))) (chunkStep k index p s) b ⌝ }
 {
-    let at = find::find_held(recv, reader::id(frame));
-    let index = reader::index(frame);
-    let number = refusal(
-        recv,
-        at,
-        index,
-        reader::offset(frame),
-        reader::size(frame) as u64,
-    );
+    let at = find::find_held(recv, id);
+    let number = refusal(recv, at, index, offset, piece.len() as u64);
     if number != answer::DONE {
         return number;
     }
-    cells::insert::put_piece(recv, at, index, reader::piece(frame));
+    let link = cells::pieces::piece_link(recv, at, index);
+    if !has_cell(recv, at, link, index) {
+        return answer::NO_CELL;
+    }
+    cells::insert::put_piece(recv, at, link, index, piece);
     answer::DONE
 }

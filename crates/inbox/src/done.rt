@@ -1,14 +1,11 @@
 // Done: all pieces were sent. The message is whole where they are all there and their sum is the sender's.
 
-use packet::reader;
 use store::field;
 use store::find;
 ghost use mathlib.Core.Path.{_≡_};
 ghost use Prim.Native.Nat.{_≤_};
-ghost use lib.ListN.{length};
 ghost use Rattle.octets.specs.Octets.{same};
 ghost use Rattle.blake3.specs.Tree.{blake3};
-ghost use Rattle.packet.specs.Frame.{idOf, doneCount, doneSum};
 ghost use Rattle.machine.specs.Limits.{longest};
 ghost use Rattle.machine.specs.Codes.{roleReceive, yes};
 ghost use Rattle.machine.specs.Layout.{decode};
@@ -16,7 +13,7 @@ ghost use Rattle.machine.specs.Pieces.{joined};
 ghost use Rattle.machine.specs.Sound.{sizes};
 ghost use Rattle.machine.specs.Receive.{found, doneStep};
 ghost use Rattle.machine.specs.Refusals.{refusal};
-ghost use Rattle.machine.specs.Packet.{frameBytes, doneRow};
+ghost use Rattle.machine.specs.Packet.{doneRow};
 ghost use Rattle.store.specs.HeldAt.{metAt, recIn, HeldAt, Searched, Receives};
 ghost use Rattle.store.specs.Step.{stepped};
 
@@ -32,7 +29,9 @@ fn has_sum(recv: &[u8], at: usize, sum: &[u8]) -> bool
 // Rows 8 and 13 to 17: the refusal of a done of the record that was searched for.
 fn refusal(recv: &[u8], at: usize, count: u64, sum: &[u8], known: u64) -> u64
     requires { ⌜ Searched roleReceive (now recv) at ⌝ }
-    ensures { λ r. ⌜ r ≡ refusal (doneRow count (now (sum .entry)) (yes known) (metAt (now (recv .entry)) at)) ⌝ }
+    ensures { λ r.
+        ⌜ r
+        ≡ refusal (doneRow count (now (sum .entry)) (yes known) (metAt (now (recv .entry)) at)) ⌝ }
 {
     if recv[at] == 0 {
         return answer::UNKNOWN_ID;
@@ -57,12 +56,17 @@ fn refusal(recv: &[u8], at: usize, count: u64, sum: &[u8], known: u64) -> u64
 }
 
 // Done: the number, and the store with the message whole.
-pub fn done(recv: &mut [u8], frame: &[u8], known: u64) -> u64
-    requires { ⌜ Receives (now recv) × (length (now frame) ≡ frameBytes) ⌝ }
-    ensures { λ r. ⌜ record { number = r; store = now (recv .exit) } ≡ stepped (refusal (doneRow (doneCount (now (frame .entry))) (doneSum (now (frame .entry))) (yes known) (found (idOf (now (frame .entry))) (decode (now (recv .entry)) .held)))) (doneStep (idOf (now (frame .entry))) (decode (now (recv .entry)))) (now (recv .entry)) ⌝ }
+pub fn done(recv: &mut [u8], id: &[u8], count: u64, sum: &[u8], known: u64) -> u64
+    requires { ⌜ Receives (now recv) ⌝ }
+    ensures { λ r.
+        let b = now (recv .entry) in
+        let k = now (id .entry) in
+        let s = decode b in
+        ⌜ record { number = r; store = now (recv .exit) }
+        ≡ stepped (refusal (doneRow count (now (sum .entry)) (yes known) (found k (s .held)))) (doneStep k s) b ⌝ }
 {
-    let at = find::find_held(recv, reader::id(frame));
-    let number = refusal(recv, at, reader::count(frame), reader::sum(frame), known);
+    let at = find::find_held(recv, id);
+    let number = refusal(recv, at, count, sum, known);
     if number != answer::DONE {
         return number;
     }

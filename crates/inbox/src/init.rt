@@ -1,24 +1,27 @@
 // Init: a message is announced, with its length and its topic.
 
-use packet::header;
-use packet::reader;
+use packet::label::Label;
+use store::find;
 use topic::Admission;
 ghost use mathlib.Core.Path.{_≡_};
-ghost use lib.ListN.{length};
+ghost use mathlib.Core.List.{_++_};
 ghost use Rattle.topic.specs.Admission.{admissionOf};
-ghost use Rattle.machine.specs.Packet.{frameBytes, initRow, initLabel, arrival, rulesRow};
 ghost use Rattle.machine.specs.Rules.{numberOf};
-ghost use mathlib.Core.List.{[]};
-ghost use Rattle.machine.specs.Layout.{encode, decode};
-ghost use Rattle.machine.specs.Receive.{initStep};
+ghost use Rattle.machine.specs.Codes.{roleReceive};
+ghost use Rattle.machine.specs.Layout.{decode};
+ghost use Rattle.machine.specs.Receive.{found, initStep};
 ghost use Rattle.machine.specs.Refusals.{refusal};
-ghost use Rattle.inbox.specs.Arrives.{Startable};
+ghost use Rattle.machine.specs.Valid.{LabelSized};
+ghost use Rattle.store.specs.HeldAt.{metAt, Searched, Receives};
+ghost use Rattle.store.specs.Opening.{newLabel};
 ghost use Rattle.store.specs.Step.{stepped};
-ghost use Rattle.store.specs.HeldAt.{Receives};
+ghost use Rattle.machine.specs.Packet.{rulesRow, placeRow};
 
 // What a rule book says of a topic and a source.
 fn admission(rules: &[u8], topic: &[u8], from: &[u8; 16]) -> u64
-    ensures { λ r. ⌜ r ≡ numberOf (admissionOf (now (rules .entry)) (now (topic .entry)) (now (from .entry))) ⌝ }
+    ensures { λ r.
+        ⌜ r
+        ≡ numberOf (admissionOf (now (rules .entry)) (now (topic .entry)) (now (from .entry))) ⌝ }
 {
     match topic::admission(rules, topic, from) {
         Admission::Malformed => answer::BAD_RULES,
@@ -28,67 +31,67 @@ fn admission(rules: &[u8], topic: &[u8], from: &[u8; 16]) -> u64
 }
 
 // Rows 3 and 4: the rule book, which an init without reply flag reads.
-fn rules_refusal(frame: &[u8], from: &[u8; 16], rules: &[u8]) -> u64
-    requires { ⌜ length (now frame) ≡ frameBytes ⌝ }
-    ensures { λ r. ⌜ r ≡ refusal (rulesRow (arrival (now (frame .entry)) (now (from .entry)) (now (from .entry)) (now (rules .entry)) 0)) ⌝ }
+fn rules_refusal(reply: bool, from: &[u8; 16], topic: &[u8], rules: &[u8]) -> u64
+    ensures { λ r.
+        ⌜ r
+        ≡ refusal (rulesRow reply (now (from .entry)) (now (topic .entry)) (now (rules .entry))) ⌝ }
 {
-    if header::is_reply(reader::flags(frame)) {
+    if reply {
         return answer::DONE;
     }
-    admission(rules, reader::topic(frame), from)
+    admission(rules, topic, from)
 }
 
-// Rows 3 to 7: the refusal of an init.
-fn refusal(recv: &[u8], frame: &[u8], from: &[u8; 16], rules: &[u8]) -> u64
-    requires { ⌜ Receives (now recv) × (length (now frame) ≡ frameBytes) ⌝ }
-    ensures { λ r. ⌜ r ≡ refusal (initRow (arrival (now (frame .entry)) (now (from .entry)) (now (from .entry)) (now (rules .entry)) 0) (decode (now (recv .entry)))) ⌝ }
+// Rows 5 to 7: the refusal of an init whose id was searched for.
+fn refusal(recv: &[u8], at: usize, id: &[u8], total: u64) -> u64
+    requires { ⌜ Searched roleReceive (now recv) at ⌝ }
+    ensures { λ r.
+        let b = now (recv .entry) in
+        ⌜ r ≡ refusal (placeRow (now (id .entry)) total (decode b) (metAt b at)) ⌝ }
 {
-    let rules = rules_refusal(frame, from, rules);
-    if rules != answer::DONE {
-        return rules;
-    }
-    let id = reader::id(frame);
-    if store::find::is_whole(recv, id) {
+    if find::is_whole(recv, id) {
         return answer::ALREADY_WHOLE;
     }
-    if reader::length(frame) > rows::message::LONGEST {
+    if total > rows::message::LONGEST {
         return answer::TOO_LONG;
     }
-    if store::find::is_held(recv, id) {
+    if recv[at] > 0 {
         return answer::DONE;
     }
-    if store::find::is_free(recv) {
+    if find::is_free(recv) {
         return answer::DONE;
     }
     answer::NO_RECORD
 }
 
-// An init that is not refused opens a record, or starts a held one again.
-fn start(recv: &mut [u8], frame: &[u8], from: &[u8; 16], to: &[u8; 16])
-    requires { ⌜ Receives (now recv) × (length (now frame) ≡ frameBytes) × Startable (decode (now recv)) (now frame) ⌝ }
-    ensures { λ _. ⌜ now (recv .exit) ≡ encode (initStep (initLabel (arrival (now (frame .entry)) (now (from .entry)) (now (to .entry)) [] 0)) (decode (now (recv .entry)))) ⌝ }
+// Init: the number, and the store with the message announced: a record opened, or a held one started again.
+pub fn init(recv: &mut [u8], label: Label, topic: &[u8], rules: &[u8]) -> u64
+    requires { ⌜ Receives (now recv) × LabelSized (newLabel label (now topic)) ⌝ }
+    ensures { λ r.
+        let b = now (recv .entry) in
+        let t = now (topic .entry) in
+        let k = label .id in
+        let s = decode b in
+        let rules = rulesRow (label .reply) (label .source) t (now (rules .entry)) in
+        let row = rules ++ placeRow k (label .total) s (found k (s .held)) in
+        ⌜ record { number = r; store = now (recv .exit) }
+        ≡ stepped (refusal row) (initStep (newLabel label t) s) b ⌝ }
 {
-    let id = reader::id(frame);
-    let reply = header::is_reply(reader::flags(frame));
-    let total = reader::length(frame);
-    let topic = reader::topic(frame);
-    let at = store::find::find_held(recv, id);
-    if recv[at] == 0 {
-        store::open::open_arriving(recv, id, from, to, reply, total, topic);
-    } else {
-        store::restart::restart(recv, at, id, from, to, reply, total, topic);
+    let id = label.id;
+    let source = label.source;
+    let refused = rules_refusal(label.reply, &source, topic, rules);
+    if refused != answer::DONE {
+        return refused;
     }
-}
-
-// Init: the number, and the store with the message announced.
-pub fn init(recv: &mut [u8], frame: &[u8], from: &[u8; 16], to: &[u8; 16], rules: &[u8]) -> u64
-    requires { ⌜ Receives (now recv) × (length (now frame) ≡ frameBytes) ⌝ }
-    ensures { λ r. ⌜ record { number = r; store = now (recv .exit) } ≡ stepped (refusal (initRow (arrival (now (frame .entry)) (now (from .entry)) (now (to .entry)) (now (rules .entry)) 0) (decode (now (recv .entry))))) (initStep (initLabel (arrival (now (frame .entry)) (now (from .entry)) (now (to .entry)) (now (rules .entry)) 0)) (decode (now (recv .entry)))) (now (recv .entry)) ⌝ }
-{
-    let number = refusal(recv, frame, from, rules);
+    let at = find::find_held(recv, &id);
+    let number = refusal(recv, at, &id, label.total);
     if number != answer::DONE {
         return number;
     }
-    start(recv, frame, from, to);
+    if recv[at] == 0 {
+        store::open::open_arriving(recv, label, topic);
+        return answer::DONE;
+    }
+    store::restart::restart(recv, at, label, topic);
     answer::DONE
 }

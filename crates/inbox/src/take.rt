@@ -18,7 +18,7 @@ ghost use Rattle.machine.specs.Pieces.{joined};
 ghost use Rattle.machine.specs.Refusals.{refusal};
 ghost use Rattle.machine.specs.Take.{oldestRow, takeRoom, takeAt};
 ghost use Rattle.store.specs.HeldAt.{rowIn, recIn, Receives};
-ghost use Rattle.inbox.specs.Arrives.{Oldest};
+ghost use Rattle.inbox.specs.Oldest.{Oldest};
 
 // What a read packet takes in a run.
 const READ_ROOM: usize = run::PACKET + header::SIZE;
@@ -26,7 +26,10 @@ const READ_ROOM: usize = run::PACKET + header::SIZE;
 // The read packet of the oldest whole message, from its destination to its source.
 fn put_read(recv: &[u8], run: &mut [u8])
     requires { ⌜ Oldest (now recv) × (takeRoom ≤ length (now run)) ⌝ }
-    ensures { λ _. ⌜ now (run .exit) ≡ put (now (run .entry)) 0 (entry (recIn (now (recv .entry)) wholeAt .label .destination) (recIn (now (recv .entry)) wholeAt .label .source) (readPacket (recIn (now (recv .entry)) wholeAt .label .id))) ⌝ }
+    ensures { λ _.
+        let h = recIn (now (recv .entry)) wholeAt .label in
+        ⌜ now (run .exit)
+        ≡ put (now (run .entry)) 0 (entry (h .destination) (h .source) (readPacket (h .id))) ⌝ }
 {
     run::put_header(
         run,
@@ -40,8 +43,12 @@ fn put_read(recv: &[u8], run: &mut [u8])
 
 // The oldest whole record as it stands, then its data.
 fn put_message(recv: &[u8], taken: &mut [u8])
-    requires { ⌜ Oldest (now recv) × (recBytes + recIn (now recv) wholeAt .label .total ≤ length (now taken)) ⌝ }
-    ensures { λ _. ⌜ now (taken .exit) ≡ put (now (taken .entry)) 0 (rowIn (now (recv .entry)) wholeAt ++ joined (recIn (now (recv .entry)) wholeAt .cells)) ⌝ }
+    requires { ⌜ Oldest (now recv)
+        × (recBytes + recIn (now recv) wholeAt .label .total ≤ length (now taken)) ⌝ }
+    ensures { λ _.
+        let b = now (recv .entry) in
+        ⌜ now (taken .exit)
+        ≡ put (now (taken .entry)) 0 (rowIn b wholeAt ++ joined (recIn b wholeAt .cells)) ⌝ }
 {
     octets::copy_in(taken, 0, field::whole_row(recv, Head::WHOLE));
     cells::walk::join(
@@ -54,7 +61,20 @@ fn put_message(recv: &[u8], taken: &mut [u8])
 // Takes the oldest whole message out: its record and its data into `taken`, its read packet into `run`.
 pub fn take(recv: &mut [u8], taken: &mut [u8], run: &mut [u8]) -> Answer
     requires { ⌜ Receives (now recv) ⌝ }
-    ensures { λ r. ⌜ record { number = r .number; run = r .run; wake = r .wake; recv = now (recv .exit); taken = now (taken .exit); out = now (run .exit) } ≡ takeAt (refusal (oldestRow (decode (now (recv .entry)) .whole) (now (taken .entry)) (now (run .entry)))) (decode (now (recv .entry)) .whole) (now (recv .entry)) (now (taken .entry)) (now (run .entry)) ⌝ }
+    ensures { λ r.
+        let b = now (recv .entry) in
+        let t = now (taken .entry) in
+        let o = now (run .entry) in
+        let l = decode b .whole in
+        ⌜ record {
+          number = r .number;
+          run = r .run;
+          wake = r .wake;
+          recv = now (recv .exit);
+          taken = now (taken .exit);
+          out = now (run .exit);
+        }
+        ≡ takeAt (refusal (oldestRow l t o)) l b t o ⌝ }
 {
     if recv[Head::WHOLE] == 0 {
         return answer::refuse(answer::NONE_WHOLE);

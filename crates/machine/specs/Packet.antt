@@ -58,20 +58,22 @@ initLabel p = record {
 }
 
 -- init 3, 4; "reply inits skip" the rule book
-abbrev pub rulesRow : Packet → Refusals
-rulesRow p =
-    (isReply p || wellFormed (p .rules), badRules)
-    ∷ (isReply p || admits (p .rules) (initTopic (p .frame)) (p .from), closedTopic)
+abbrev pub rulesRow : Bool → List ℕ → List ℕ → List ℕ → Refusals
+rulesRow reply from topic rules = (reply || wellFormed rules, badRules) ∷ (reply || admits rules topic from, closedTopic) ∷ []
+
+-- init 5, 6, 7, on a store and with the held record of its key
+abbrev pub placeRow : Key → ℕ → Store → Option Rec → Refusals
+placeRow k total s o =
+    (not (isSome (found k (s .whole))), alreadyWhole)
+    ∷ (leb total longest, tooLong)
+    ∷ (isSome o || ltb 0 (length (s .free)), noRecord)
     ∷ []
 
 -- init 3, 4, 5, 6, 7
 abbrev pub initRow : Packet → Store → Refusals
 initRow p s =
-    rulesRow p
-    ++ (not (isSome (found (asked p) (s .whole))), alreadyWhole)
-    ∷ (leb (initLength (p .frame)) longest, tooLong)
-    ∷ (isSome (found (asked p) (s .held)) || ltb 0 (length (s .free)), noRecord)
-    ∷ []
+    rulesRow (isReply p) (p .from) (initTopic (p .frame)) (p .rules)
+    ++ placeRow (asked p) (initLength (p .frame)) s (found (asked p) (s .held))
 
 -- row 11: "size below 250, index not top"; it is handed the offset too, by which a last piece may be told
 unfoldable pub tooShort : ℕ → ℕ → ℕ → ℕ → Bool
@@ -81,16 +83,21 @@ tooShort total index offset size = ltb size leastPiece && not (eqb index (topOf 
 abbrev pub cellsNeeded : ℕ → Rec → ℕ
 cellsNeeded index r = cond (isSome (pieceAt index (r .cells))) 0 1
 
--- chunk 8, 9, 10, 11, 12
-abbrev pub chunkRow : ℕ → ℕ → ℕ → Store → Option Rec → Refusals
-chunkRow index offset size s o =
-    asksOf o
-    (λ r.
+-- chunk 9, 10, 11, of its record
+abbrev pub pieceRow : ℕ → ℕ → ℕ → Rec → Refusals
+pieceRow index offset size r =
     (leb (offset + size) (r .label .total), pastEnd)
     ∷ (leb index (topOf (r .label .total)), highIndex)
     ∷ (not (tooShort (r .label .total) index offset size), shortPiece)
-    ∷ (leb (cellsNeeded index r) (length (s .freeCells)), noCell)
-    ∷ [])
+    ∷ []
+
+-- chunk 12
+abbrev pub cellRow : ℕ → Store → Rec → Refusals
+cellRow index s r = (leb (cellsNeeded index r) (length (s .freeCells)), noCell) ∷ []
+
+-- chunk 8, 9, 10, 11, 12
+abbrev pub chunkRow : ℕ → ℕ → ℕ → Store → Option Rec → Refusals
+chunkRow index offset size s o = asksOf o (λ r. pieceRow index offset size r ++ cellRow index s r)
 
 -- done 8, 13 to 17; indices rise below slots, so every one below slots has a piece where there are as many as slots (row 14)
 abbrev pub doneRow : ℕ → List ℕ → Bool → Option Rec → Refusals

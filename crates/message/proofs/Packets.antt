@@ -1,104 +1,62 @@
 -- The ways out of a packet. Assumes nothing.
-use Prim.Native.Nat.{ℕ, _≤_, _<_}
-use native.Mathlib.Omega.{arith}
+use Prim.Native.Nat.{ℕ}
 use mathlib.Core.Path.{_≡_, sym, ap, _∙_}
 use mathlib.Core.Bool.{true, false}
-use mathlib.Core.List.{List, _∷_}
-use lib.ListN.{length}
-use lib.Dec.{eqb, leb}
-use borrow.Author.Tests.{eq-eqb, ne-eqb, le-leb, lt-leb}
+use mathlib.Core.List.{List}
+use lib.ListN.{length, drop}
+use lib.Dec.{eqb}
+use borrow.Author.Tests.{eq-eqb, ne-eqb}
 use Rattle.octets.specs.Octets.{put}
-use Rattle.machine.specs.Codes.{roleReceive, roleSend}
 use Rattle.machine.specs.Layout.{decode, encode}
-use Rattle.machine.specs.Sound.{sound}
-use Rattle.machine.specs.Refusals.{Refusals, refusal}
-use Rattle.machine.specs.Outcomes.{PacketOutcome}
-use Rattle.machine.specs.Packet.{Packet, kind, frameBytes, packetRoom, isKind, kindRow, recvStep, sendStep, kindOut, kindWake, packetRow, packetAt, packetAnswer}
-use Rattle.store.specs.RefuseLaws.{next, stop}
-use Rattle.message.specs.Both.{Both, both}
+use Rattle.machine.specs.Refusals.{refusal}
+use Rattle.machine.specs.Packet.{Packet, kind, kindRow, recvStep, sendStep, kindOut, kindWake, packetRow, packetAt, packetAnswer}
+use Rattle.message.specs.Both.{Both, bothOf}
 
-module _ (p : Packet) (b c out : List ℕ) where
-  abbrev row : ℕ
-  row = refusal (packetRow p b c out)
+-- a packet, both stores and the run buffer
+pub record Call : Type 0 where
+  pub packet : Packet
+  pub recv : List ℕ
+  pub send : List ℕ
+  pub out : List ℕ
 
-  abbrev outcome : PacketOutcome
-  outcome = packetAnswer p b c out
+-- the number that its row gives, and the row from its n-th test on
+abbrev pub numberOf : Call → ℕ
+numberOf q = refusal (packetRow (q .packet) (q .recv) (q .send) (q .out))
+
+abbrev pub From : ℕ → Call → Type 0
+From n q = numberOf q ≡ refusal (drop n (packetRow (q .packet) (q .recv) (q .send) (q .out)))
+
+module _ (q : Call) where
+  abbrev p : Packet
+  p = q .packet
 
   -- a refusal, once its number is known
-  refused : (n m k w : ℕ) → n ≡ row → (n ≡ 0 → ⊥) → m ≡ n → k ≡ 0 → w ≡ 0 → record { number = m; run = k; wake = w; recv = b; send = c; out = out } ≡ outcome
-  refused n m k w e z x y v =
-      (λ i. record { number = (x ∙ e) i; run = y i; wake = v i; recv = b; send = c; out = out })
-      ∙ sym (rw (ne-eqb row 0 (λ f. z (e ∙ f))))
+  pub refused : {n m k w : ℕ} → n ≡ numberOf q → (n ≡ 0 → ⊥) → m ≡ n → k ≡ 0 → w ≡ 0
+      → record { number = m; run = k; wake = w; recv = q .recv; send = q .send; out = q .out } ≡ packetAnswer p (q .recv) (q .send) (q .out)
+  refused e z x y v =
+      (λ i. record { number = (x ∙ e) i; run = y i; wake = v i; recv = q .recv; send = q .send; out = q .out })
+      ∙ sym (rw (ne-eqb (numberOf q) 0 (λ f. z (e ∙ f))))
 
-  -- what follows each test
-  abbrev last : Refusals
-  last = kindRow (kind p) p (decode b) (decode c)
+  -- the kind's own row, and what its step left
+  module _ (at : numberOf q ≡ refusal (kindRow (kind p) p (decode (q .recv)) (decode (q .send)))) {n : ℕ} {b c : List ℕ}
+      (s : record { number = n; recv = b; send = c } ≡ bothOf (kind p) p (q .recv) (q .send)) where
+    is : n ≡ numberOf q
+    is = ap (λ (x : Both). x .number) s ∙ sym at
 
-  abbrev room : Refusals
-  room = (leb packetRoom (length out), 2) ∷ last
+    -- its refusals change nothing
+    pub step-out : {m k w : ℕ} → (n ≡ 0 → ⊥) → m ≡ n → k ≡ 0 → w ≡ 0
+        → record { number = m; run = k; wake = w; recv = b; send = c; out = q .out } ≡ packetAnswer p (q .recv) (q .send) (q .out)
+    step-out {m} {k} {w} z x y v =
+        let f : eqb (refusal (kindRow (kind p) p (decode (q .recv)) (decode (q .send)))) 0 ≡ false = ne-eqb _ 0 (λ f. z (is ∙ at ∙ f)) in
+        let rb : b ≡ q .recv = ap (λ (x : Both). x .recv) s ∙ rw f in
+        let rc : c ≡ q .send = ap (λ (x : Both). x .send) s ∙ rw f in
+        (λ i. record { number = m; run = k; wake = w; recv = rb i; send = rc i; out = q .out }) ∙ refused is z x y v
 
-  abbrev kinds : Refusals
-  kinds = (isKind (kind p), 20) ∷ room
-
-  abbrev frames : Refusals
-  frames = (eqb (length (p .frame)) frameBytes, 1) ∷ kinds
-
-  abbrev sends : Refusals
-  sends = (sound roleSend c, 25) ∷ frames
-
-  pub recv-out : (m k w : ℕ) → sound roleReceive b ≡ false → m ≡ 25 → k ≡ 0 → w ≡ 0 → record { number = m; run = k; wake = w; recv = b; send = c; out = out } ≡ outcome
-  unfolding packetRow
-  recv-out m k w e x y v = refused 25 m k w (sym (stop (sound roleReceive b) 25 sends e)) (λ f. omega arith) x y v
-
-  module _ (e1 : sound roleReceive b ≡ true) where
-    at1 : row ≡ refusal sends
-    unfolding packetRow
-    at1 = next (sound roleReceive b) 25 sends e1
-
-    pub send-out : (m k w : ℕ) → sound roleSend c ≡ false → m ≡ 25 → k ≡ 0 → w ≡ 0 → record { number = m; run = k; wake = w; recv = b; send = c; out = out } ≡ outcome
-    send-out m k w e x y v = refused 25 m k w (sym (at1 ∙ stop (sound roleSend c) 25 frames e)) (λ f. omega arith) x y v
-
-    module _ (e2 : sound roleSend c ≡ true) where
-      at2 : row ≡ refusal frames
-      at2 = at1 ∙ next (sound roleSend c) 25 frames e2
-
-      pub frame-out : (m k w : ℕ) → (length (p .frame) ≡ frameBytes → ⊥) → m ≡ 1 → k ≡ 0 → w ≡ 0 → record { number = m; run = k; wake = w; recv = b; send = c; out = out } ≡ outcome
-      frame-out m k w e x y v = refused 1 m k w (sym (at2 ∙ stop (eqb (length (p .frame)) frameBytes) 1 kinds (ne-eqb (length (p .frame)) frameBytes e))) (λ f. omega arith) x y v
-
-      module _ (e3 : length (p .frame) ≡ frameBytes) where
-        at3 : row ≡ refusal kinds
-        at3 = at2 ∙ next (eqb (length (p .frame)) frameBytes) 1 kinds (eq-eqb (length (p .frame)) frameBytes e3)
-
-        pub kind-out : (m k w : ℕ) → isKind (kind p) ≡ false → m ≡ 20 → k ≡ 0 → w ≡ 0 → record { number = m; run = k; wake = w; recv = b; send = c; out = out } ≡ outcome
-        kind-out m k w e x y v = refused 20 m k w (sym (at3 ∙ stop (isKind (kind p)) 20 room e)) (λ f. omega arith) x y v
-
-        module _ (e4 : isKind (kind p) ≡ true) where
-          at4 : row ≡ refusal room
-          at4 = at3 ∙ next (isKind (kind p)) 20 room e4
-
-          pub room-out : (m k w : ℕ) → length out < packetRoom → m ≡ 2 → k ≡ 0 → w ≡ 0 → record { number = m; run = k; wake = w; recv = b; send = c; out = out } ≡ outcome
-          room-out m k w e x y v = refused 2 m k w (sym (at4 ∙ stop (leb packetRoom (length out)) 2 last (lt-leb packetRoom (length out) e))) (λ f. omega arith) x y v
-
-          module _ (e5 : packetRoom ≤ length out) (n : ℕ) (b′ c′ : List ℕ) (s : record { number = n; recv = b′; send = c′ } ≡ both p b c) where
-            at5 : row ≡ refusal last
-            at5 = at4 ∙ next (leb packetRoom (length out)) 2 last (le-leb packetRoom (length out) e5)
-
-            is : n ≡ row
-            is = ap (λ (x : Both). x .number) s ∙ sym at5
-
-            -- the kind's own refusals change nothing
-            pub step-out : (m k w : ℕ) → (n ≡ 0 → ⊥) → m ≡ n → k ≡ 0 → w ≡ 0 → record { number = m; run = k; wake = w; recv = b′; send = c′; out = out } ≡ outcome
-            step-out m k w z x y v =
-                let q : eqb (refusal last) 0 ≡ false = ne-eqb (refusal last) 0 (λ f. z (is ∙ at5 ∙ f)) in
-                let rb : b′ ≡ b = ap (λ (x : Both). x .recv) s ∙ rw q in
-                let rc : c′ ≡ c = ap (λ (x : Both). x .send) s ∙ rw q in
-                (λ i. record { number = m; run = k; wake = w; recv = rb i; send = rc i; out = out }) ∙ refused n m k w is z x y v
-
-            pub done-out : (k w : ℕ) (out′ : List ℕ) → n ≡ 0 → k ≡ length (kindOut (kind p) p) → w ≡ kindWake (kind p) → out′ ≡ put out 0 (kindOut (kind p) p)
-                → record { number = 0; run = k; wake = w; recv = b′; send = c′; out = out′ } ≡ outcome
-            done-out k w out′ z x y v =
-                let q : eqb (refusal last) 0 ≡ true = eq-eqb (refusal last) 0 (sym at5 ∙ sym is ∙ z) in
-                let rb : b′ ≡ encode (recvStep (kind p) p (decode b)) = ap (λ (x : Both). x .recv) s ∙ rw q in
-                let rc : c′ ≡ encode (sendStep (kind p) p (decode c)) = ap (λ (x : Both). x .send) s ∙ rw q in
-                (λ i. record { number = 0; run = x i; wake = y i; recv = rb i; send = rc i; out = v i })
-                ∙ ap (λ (m : ℕ). packetAt m p b c out) (sym z ∙ is)
+    pub done-out : {k w : ℕ} {out : List ℕ} → n ≡ 0 → k ≡ length (kindOut (kind p) p) → w ≡ kindWake (kind p) → out ≡ put (q .out) 0 (kindOut (kind p) p)
+        → record { number = 0; run = k; wake = w; recv = b; send = c; out = out } ≡ packetAnswer p (q .recv) (q .send) (q .out)
+    done-out z x y v =
+        let f : eqb (refusal (kindRow (kind p) p (decode (q .recv)) (decode (q .send)))) 0 ≡ true = eq-eqb _ 0 (sym at ∙ sym is ∙ z) in
+        let rb : b ≡ encode (recvStep (kind p) p (decode (q .recv))) = ap (λ (x : Both). x .recv) s ∙ rw f in
+        let rc : c ≡ encode (sendStep (kind p) p (decode (q .send))) = ap (λ (x : Both). x .send) s ∙ rw f in
+        (λ i. record { number = 0; run = x i; wake = y i; recv = rb i; send = rc i; out = v i })
+        ∙ ap (λ (m : ℕ). packetAt m p (q .recv) (q .send) (q .out)) (sym z ∙ is)

@@ -5,7 +5,9 @@ use mathlib.Core.Bool.{true, false, _||_}
 use mathlib.Core.List.{List, _∷_}
 use lib.ListN.{length}
 use lib.Dec.{eqb, leb}
-use Rattle.machine.specs.Codes.{roleSend}
+use Rattle.octets.specs.Bools.{one}
+use Rattle.octets.specs.BoolsLaws.{cases}
+use Rattle.machine.specs.Codes.{roleSend, yes}
 use Rattle.machine.specs.Values.{Store}
 use Rattle.machine.specs.Layout.{decode}
 use Rattle.machine.specs.Sound.{sound}
@@ -13,7 +15,7 @@ use Rattle.machine.specs.Receive.{found}
 use Rattle.machine.specs.Send.{pushStep, initOut}
 use Rattle.machine.specs.Refusals.{Refusals, refusal, heldRow}
 use Rattle.machine.specs.Outcomes.{sendAt}
-use Rattle.machine.specs.Push.{Push, pushTests, pushRow, pushLabel, pushAnswer}
+use Rattle.machine.specs.Push.{Push, pushed, pushTests, pushRow, pushLabel, pushAnswer}
 use Rattle.machine.specs.Wake.{sendWake, deadlineWake, wakeRoom, wakeRow, wakeStep, wakeRun, wakeOf}
 use Rattle.store.specs.RefuseLaws.{next, stop}
 
@@ -38,6 +40,12 @@ module _ (p : Push) (b out : List ℕ) where
       → sendAt (refusal (pushTests p (decode b) (length out))) (pushStep (pushLabel p) (p .created) (p .created + p .try) (p .bytes) (decode b)) (initOut (pushLabel p)) b out ≡ pushAnswer p b out
   unfolding pushRow
   push-sound e = is-sound b out (pushTests p (decode b) (length out)) (pushStep (pushLabel p) (p .created) (p .created + p .try) (p .bytes) (decode b)) (initOut (pushLabel p)) e
+
+  -- a reply mark is 1 or 0 where it is carried, and any number where it is pushed
+  pub reply-same : let q : Push = pushed (p .id) (one (yes (p .reply))) (p .from) (p .to) (p .topic) (p .bytes) (p .created) (p .try) in
+      sendAt (refusal (pushTests q (decode b) (length out))) (pushStep (pushLabel q) (p .created) (p .created + p .try) (p .bytes) (decode b)) (initOut (pushLabel q)) b out
+      ≡ sendAt (refusal (pushTests p (decode b) (length out))) (pushStep (pushLabel p) (p .created) (p .created + p .try) (p .bytes) (decode b)) (initOut (pushLabel p)) b out
+  reply-same = cases (yes (p .reply)) (λ e. rw e) (λ e. rw e)
 
 module _ (b : List ℕ) (kind : ℕ) (id : List ℕ) (clock : ℕ) (out : List ℕ) where
   abbrev row : Refusals

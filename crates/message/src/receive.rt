@@ -1,7 +1,10 @@
 // What arrives: packets, and the messages that are whole.
 
 use crate::step;
+use crate::step::Route;
 use answer::Answer;
+use packet::header;
+use packet::reader;
 use packet::run;
 use rows::head;
 ghost use mathlib.Core.Path.{_≡_};
@@ -14,7 +17,8 @@ const FRAME: usize = 1400;
 // What the longest reply takes in a run.
 const REPLY_ROOM: usize = run::PACKET + step::DONE_REPLY;
 
-// A packet that came in: `known` tells whether the host knows the key of the record's source, `rules` is the rule book, and the reply goes into `run`.
+// A packet that came in: `known` tells whether the host knows the key of the record's source, `rules` is the
+// rule book, and the reply goes into `run`.
 pub fn packet(
     recv: &mut [u8],
     send: &mut [u8],
@@ -25,7 +29,17 @@ pub fn packet(
     known: u64,
     run: &mut [u8],
 ) -> Answer
-    ensures { λ r. ⌜ record { number = r .number; run = r .run; wake = r .wake; recv = now (recv .exit); send = now (send .exit); out = now (run .exit) } ≡ packetOf (now (recv .entry)) (now (send .entry)) (now (frame .entry)) (now (from .entry)) (now (to .entry)) (now (rules .entry)) known (now (run .entry)) ⌝ }
+    ensures { λ r.
+        ⌜ record {
+          number = r .number;
+          run = r .run;
+          wake = r .wake;
+          recv = now (recv .exit);
+          send = now (send .exit);
+          out = now (run .exit);
+        }
+        ≡ packetOf (now (recv .entry)) (now (send .entry)) (now (frame .entry)) (now (from .entry))
+        (now (to .entry)) (now (rules .entry)) known (now (run .entry)) ⌝ }
 {
     if !soundness::store::sound(recv, head::RECEIVE) {
         return answer::refuse(answer::UNSOUND_STORE);
@@ -36,28 +50,43 @@ pub fn packet(
     if frame.len() != FRAME {
         return answer::refuse(answer::BAD_FRAME);
     }
-    if !step::has_kind(frame) {
+    let kind = header::kind_of(reader::flags(frame));
+    let effect = step::effect_of(kind);
+    if !effect.any {
         return answer::refuse(answer::NO_WORK);
     }
     if run.len() < REPLY_ROOM {
         return answer::refuse(answer::SHORT_OUTPUT);
     }
-    let number = step::step(recv, send, frame, from, to, rules, known);
+    let route = Route {
+        from: *from,
+        to: *to,
+    };
+    let number = step::step(kind, recv, send, frame, route, rules, known);
     if number != answer::DONE {
         return answer::refuse(number);
     }
-    let wake = step::wake_mark(frame);
-    let length = step::reply(frame, from, to, run);
+    let length = step::reply(effect.keeps, frame, from, to, run);
     Answer {
         number: answer::DONE,
         run: length as u64,
-        wake: wake,
+        wake: effect.wake,
     }
 }
 
-// The oldest whole message: its record and its data go into `taken`, its read packet into `run`, and its record is dropped.
+// The oldest whole message: its record and its data go into `taken`, its read packet into `run`, and its
+// record is dropped.
 pub fn take(recv: &mut [u8], taken: &mut [u8], run: &mut [u8]) -> Answer
-    ensures { λ r. ⌜ record { number = r .number; run = r .run; wake = r .wake; recv = now (recv .exit); taken = now (taken .exit); out = now (run .exit) } ≡ takeOf (now (recv .entry)) (now (taken .entry)) (now (run .entry)) ⌝ }
+    ensures { λ r.
+        ⌜ record {
+          number = r .number;
+          run = r .run;
+          wake = r .wake;
+          recv = now (recv .exit);
+          taken = now (taken .exit);
+          out = now (run .exit);
+        }
+        ≡ takeOf (now (recv .entry)) (now (taken .entry)) (now (run .entry)) ⌝ }
 {
     if !soundness::store::sound(recv, head::RECEIVE) {
         return answer::refuse(answer::UNSOUND_STORE);

@@ -1,6 +1,7 @@
 // What leaves: messages that are pushed, woken and reported on.
 
 use answer::Answer;
+use packet::label::labelled;
 use rows::head;
 ghost use mathlib.Core.Path.{_≡_};
 ghost use Rattle.machine.specs.Push.{pushOf};
@@ -20,28 +21,36 @@ pub fn push(
     try_ms: u64,
     run: &mut [u8],
 ) -> Answer
-    ensures { λ r. ⌜ record { number = r .number; run = r .run; wake = r .wake; send = now (send .exit); out = now (run .exit) } ≡ pushOf (now (send .entry)) (now (id .entry)) reply (now (from .entry)) (now (to .entry)) (now (topic .entry)) (now (bytes .entry)) created «try_ms» (now (run .entry)) ⌝ }
+    ensures { λ r.
+        ⌜ record {
+          number = r .number;
+          run = r .run;
+          wake = r .wake;
+          send = now (send .exit);
+          out = now (run .exit);
+        }
+        ≡ pushOf (now (send .entry)) (now (id .entry)) reply (now (from .entry)) (now (to .entry))
+        (now (topic .entry)) (now (bytes .entry)) created «try_ms» (now (run .entry)) ⌝ }
 {
     if !soundness::store::sound(send, head::SEND) {
         return answer::refuse(answer::UNSOUND_STORE);
     }
-    outbox::push::push(
-        send,
-        id,
-        reply,
-        from,
-        to,
-        topic,
-        bytes,
-        created,
-        try_ms,
-        run,
-    )
+    let label = labelled(id, from, to, reply != 0, bytes.len() as u64);
+    outbox::push::push(send, label, topic, bytes, created, try_ms, run)
 }
 
-// A wake of the message with that id: kind 1 sends what is due, kind 2 lets the deadline pass. The clock is in milliseconds.
+// A wake of the message with that id: kind 1 sends what is due, kind 2 lets the deadline pass. The clock is
+// in milliseconds.
 pub fn wake(send: &mut [u8], kind: u64, id: &[u8; 8], clock: u64, run: &mut [u8]) -> Answer
-    ensures { λ r. ⌜ record { number = r .number; run = r .run; wake = r .wake; send = now (send .exit); out = now (run .exit) } ≡ wakeOf (now (send .entry)) kind (now (id .entry)) clock (now (run .entry)) ⌝ }
+    ensures { λ r.
+        ⌜ record {
+          number = r .number;
+          run = r .run;
+          wake = r .wake;
+          send = now (send .exit);
+          out = now (run .exit);
+        }
+        ≡ wakeOf (now (send .entry)) kind (now (id .entry)) clock (now (run .entry)) ⌝ }
 {
     if !soundness::store::sound(send, head::SEND) {
         return answer::refuse(answer::UNSOUND_STORE);
@@ -51,7 +60,9 @@ pub fn wake(send: &mut [u8], kind: u64, id: &[u8; 8], clock: u64, run: &mut [u8]
 
 // The report on the message with that id, into `out`.
 pub fn report(send: &[u8], id: &[u8; 8], out: &mut [u8]) -> Answer
-    ensures { λ r. ⌜ record { number = r .number; run = r .run; wake = r .wake; out = now (out .exit) } ≡ reportOf (now (send .entry)) (now (id .entry)) (now (out .entry)) ⌝ }
+    ensures { λ r.
+        ⌜ record { number = r .number; run = r .run; wake = r .wake; out = now (out .exit) }
+        ≡ reportOf (now (send .entry)) (now (id .entry)) (now (out .entry)) ⌝ }
 {
     if !soundness::store::sound(send, head::SEND) {
         return answer::refuse(answer::UNSOUND_STORE);

@@ -5,17 +5,19 @@ use packet::done::MessageDone;
 use packet::header;
 use packet::header::Kind;
 use packet::init::MessageInit;
+use packet::label::labelled;
 use packet::reader;
 use packet::run;
 use rows::record;
 ghost use mathlib.Core.Path.{_≡_};
+ghost use mathlib.Core.Bool.{true};
 ghost use Prim.Native.Nat.{_≤_};
 ghost use lib.ListN.{length};
 ghost use Rattle.octets.specs.Octets.{put};
-ghost use Rattle.packet.specs.Frame.{kindOf, flagsOf};
+ghost use Rattle.packet.specs.declared.header.Kind.{Kind};
 ghost use Rattle.machine.specs.Packet.{frameBytes, packetRoom, isKind, kindWake, arrival, replyBytes};
 ghost use Rattle.store.specs.HeldAt.{Receives, Sends};
-ghost use Rattle.message.specs.Both.{both, replyOut};
+ghost use Rattle.message.specs.Both.{bothOf, replyOut};
 
 // The bytes of the frame that each reply keeps: up to an init's topic, up to a chunk's piece, all of a done.
 const INIT_REPLY: usize = MessageInit::TOPIC;
@@ -24,103 +26,108 @@ const CHUNK_REPLY: usize = MessageChunk::PIECE;
 
 pub const DONE_REPLY: usize = MessageDone::SIZE;
 
-// The kind of the packet in a frame.
-fn kind_in(frame: &[u8]) -> Kind
-    requires { ⌜ length (now frame) ≡ frameBytes ⌝ }
-    ensures { λ r. ⌜ r ≡ kindOf (flagsOf (now (frame .entry))) ⌝ }
-{
-    header::kind_of(reader::flags(frame))
+// What an accepted packet is answered with: whether it has a kind, how many bytes of its frame the reply
+// keeps (0: no reply), the wake mark.
+pub struct Effect {
+    pub any: bool,
+    pub keeps: usize,
+    pub wake: u64,
 }
 
-// Whether the packet is of any kind.
-pub fn has_kind(frame: &[u8]) -> bool
-    requires { ⌜ length (now frame) ≡ frameBytes ⌝ }
-    ensures { λ r. ⌜ r ≡ isKind (kindOf (flagsOf (now (frame .entry)))) ⌝ }
+fn answered(keeps: usize, wake: u64) -> Effect
+    ensures { λ r. ⌜ (r .any ≡ true) × (r .keeps ≡ keeps) × (r .wake ≡ wake) ⌝ }
 {
-    match kind_in(frame) {
-        Kind::Init => true,
-        Kind::Chunk => true,
-        Kind::Done => true,
-        Kind::Read => true,
-        Kind::Aborted => true,
-        Kind::AckInit => true,
-        Kind::AckChunk => true,
-        Kind::AckDone => true,
-        Kind::Nothing => false,
+    Effect {
+        any: true,
+        keeps: keeps,
+        wake: wake,
     }
+}
+
+// .. by its kind.
+pub fn effect_of(kind: Kind) -> Effect
+    ensures { λ r. ⌜ (r .any ≡ isKind kind) × (r .keeps ≡ replyBytes kind) × (r .wake ≡ kindWake kind) ⌝ }
+{
+    match kind {
+        Kind::Init => answered(INIT_REPLY, 0),
+        Kind::Chunk => answered(CHUNK_REPLY, 0),
+        Kind::Done => answered(DONE_REPLY, 0),
+        Kind::Read => answered(0, 0),
+        Kind::Aborted => answered(0, 0),
+        Kind::AckInit => answered(0, 1),
+        Kind::AckChunk => answered(0, 1),
+        Kind::AckDone => answered(0, 0),
+        Kind::Nothing => Effect {
+            any: false,
+            keeps: 0,
+            wake: 0,
+        },
+    }
+}
+
+// Where a packet came from, and where it was sent to.
+pub struct Route {
+    pub from: [u8; 16],
+    pub to: [u8; 16],
 }
 
 // The packet's step: its number, and both stores.
 pub fn step(
+    kind: Kind,
     recv: &mut [u8],
     send: &mut [u8],
     frame: &[u8],
-    from: &[u8; 16],
-    to: &[u8; 16],
+    route: Route,
     rules: &[u8],
     known: u64,
 ) -> u64
     requires { ⌜ Receives (now recv) × Sends (now send) × (length (now frame) ≡ frameBytes) ⌝ }
-    ensures { λ r. ⌜ record { number = r; recv = now (recv .exit); send = now (send .exit) } ≡ both (arrival (now (frame .entry)) (now (from .entry)) (now (to .entry)) (now (rules .entry)) known) (now (recv .entry)) (now (send .entry)) ⌝ }
+    ensures { λ r.
+        let p = arrival (now (frame .entry)) (route .from) (route .to) (now (rules .entry)) known in
+        ⌜ record { number = r; recv = now (recv .exit); send = now (send .exit) }
+        ≡ bothOf kind p (now (recv .entry)) (now (send .entry)) ⌝ }
 {
-    match kind_in(frame) {
-        Kind::Init => inbox::init::init(recv, frame, from, to, rules),
-        Kind::Chunk => inbox::chunk::chunk(recv, frame),
-        Kind::Done => inbox::done::done(recv, frame, known),
-        Kind::Read => outbox::acks::advance(send, frame, record::RECEIVED, record::READ),
-        Kind::Aborted => inbox::aborted::abort(recv, frame),
-        Kind::AckInit => outbox::acks::advance(send, frame, record::INIT, record::IN_PROGRESS),
-        Kind::AckChunk => outbox::acks::ack_chunk(send, frame),
-        Kind::AckDone => outbox::acks::advance(send, frame, record::IN_PROGRESS, record::RECEIVED),
+    let id = reader::id(frame);
+    match kind {
+        Kind::Init => {
+            let from = route.from;
+            let to = route.to;
+            let reply = header::is_reply(reader::flags(frame));
+            let label = labelled(id, &from, &to, reply, reader::length(frame));
+            inbox::init::init(recv, label, reader::topic(frame), rules)
+        }
+        Kind::Chunk => {
+            let index = reader::index(frame);
+            let offset = reader::offset(frame);
+            let piece = reader::piece(frame);
+            inbox::chunk::chunk(recv, id, index, offset, piece)
+        }
+        Kind::Done => {
+            let count = reader::count(frame);
+            let sum = reader::sum(frame);
+            inbox::done::done(recv, id, count, sum, known)
+        }
+        Kind::Read => outbox::acks::advance(send, id, record::RECEIVED, record::READ),
+        Kind::Aborted => inbox::aborted::abort(recv, id),
+        Kind::AckInit => outbox::acks::advance(send, id, record::INIT, record::IN_PROGRESS),
+        Kind::AckChunk => outbox::acks::ack_chunk(send, id, reader::index(frame)),
+        Kind::AckDone => outbox::acks::advance(send, id, record::IN_PROGRESS, record::RECEIVED),
         Kind::Nothing => answer::NO_WORK,
     }
 }
 
-// How many bytes of the frame the reply keeps, 0 where there is none.
-fn reply_bytes(frame: &[u8]) -> usize
-    requires { ⌜ length (now frame) ≡ frameBytes ⌝ }
-    ensures { λ r. ⌜ r ≡ replyBytes (kindOf (flagsOf (now (frame .entry)))) ⌝ }
-{
-    match kind_in(frame) {
-        Kind::Init => INIT_REPLY,
-        Kind::Chunk => CHUNK_REPLY,
-        Kind::Done => DONE_REPLY,
-        Kind::Read => 0,
-        Kind::Aborted => 0,
-        Kind::AckInit => 0,
-        Kind::AckChunk => 0,
-        Kind::AckDone => 0,
-        Kind::Nothing => 0,
-    }
-}
-
 // The reply, from the packet's to-address to its from-address; answers how long the run is.
-pub fn reply(frame: &[u8], from: &[u8; 16], to: &[u8; 16], run: &mut [u8]) -> usize
-    requires { ⌜ (length (now frame) ≡ frameBytes) × (packetRoom ≤ length (now run)) ⌝ }
-    ensures { λ r. ⌜ (r ≡ length (replyOut (now (frame .entry)) (now (from .entry)) (now (to .entry)))) × (now (run .exit) ≡ put (now (run .entry)) 0 (replyOut (now (frame .entry)) (now (from .entry)) (now (to .entry)))) ⌝ }
+pub fn reply(keeps: usize, frame: &[u8], from: &[u8; 16], to: &[u8; 16], run: &mut [u8]) -> usize
+    requires { ⌜ ((k : Kind) × (keeps ≡ replyBytes k))
+        × (length (now frame) ≡ frameBytes)
+        × (packetRoom ≤ length (now run)) ⌝ }
+    ensures { λ r.
+        let out = replyOut keeps (now (frame .entry)) (now (from .entry)) (now (to .entry)) in
+        ⌜ (r ≡ length out) × (now (run .exit) ≡ put (now (run .entry)) 0 out) ⌝ }
 {
-    let keeps = reply_bytes(frame);
     if keeps == 0 {
         return 0;
     }
     run::put_reply(run, 0, to, from, frame, keeps);
     run::PACKET + keeps
-}
-
-// The wake mark.
-pub fn wake_mark(frame: &[u8]) -> u64
-    requires { ⌜ length (now frame) ≡ frameBytes ⌝ }
-    ensures { λ r. ⌜ r ≡ kindWake (kindOf (flagsOf (now (frame .entry)))) ⌝ }
-{
-    match kind_in(frame) {
-        Kind::Init => 0,
-        Kind::Chunk => 0,
-        Kind::Done => 0,
-        Kind::Read => 0,
-        Kind::Aborted => 0,
-        Kind::AckInit => 1,
-        Kind::AckChunk => 1,
-        Kind::AckDone => 0,
-        Kind::Nothing => 0,
-    }
 }

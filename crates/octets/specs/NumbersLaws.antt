@@ -36,7 +36,8 @@ pub num-be : (k n : ℕ) → n < capacity k → num k (be k n) ≡ n
 unfolding num be capacity
 num-be zero n h = omega arith
 num-be (suc k) n h =
-    let e : num k (be k (n / 256) ++ (n % 256 ∷ [])) ≡ n / 256 = num-append k (be k (n / 256)) (n % 256 ∷ []) (omega (arith, length-be k (n / 256))) ∙ num-be k (n / 256) (omega arith) in
+    let e : num k (be k (n / 256) ++ (n % 256 ∷ [])) ≡ n / 256 = num-append k (be k (n / 256)) (n % 256 ∷ []) (omega (arith, length-be k (n / 256)))
+    ∙ num-be k (n / 256) (omega arith) in
     let d : getD (be k (n / 256) ++ (n % 256 ∷ [])) k 0 ≡ n % 256 = getD-at (be k (n / 256)) (n % 256) [] 0 k (length-be k (n / 256)) in
     omega arith
 

@@ -3,132 +3,126 @@ use Prim.Native.Nat.{ℕ, _+_, _≤_}
 use native.Mathlib.Omega.{arith}
 use mathlib.Core.Path.{_≡_, refl, sym, ap, _∙_}
 use mathlib.Core.Bool.{cond}
-use mathlib.Core.List.{List, [], _∷_, _++_, map, append-nil, append-assoc}
+use mathlib.Core.List.{List, [], _∷_, _++_, map, append-assoc}
 use lib.ListN.{length, getD, length-append}
-use Rattle.octets.specs.Octets.{put, Bytes}
+use Rattle.octets.specs.Octets.{put}
 use Rattle.octets.specs.PartsLaws.{length-put, length-part, put-nil, more}
-use Rattle.machine.specs.Codes.{roleSend}
 use Rattle.machine.specs.Values.{Cell, Rec}
 use Rattle.machine.specs.Chains.{first}
-use Rattle.machine.specs.Layout.{idAt, firstCellAt, recOff, recOf, cellPlace, cellOff, readCell, encode, decode}
-use Rattle.machine.specs.Send.{withCells, changeAt, change, due, stamped, chunkOut, dueOut}
+use Rattle.machine.specs.Layout.{idAt, firstCellAt, recOff, cellPlace, cellOff, readCell, encode, decode}
+use Rattle.machine.specs.Send.{withCells, changeAt, change, due, chunkOut, dueOut}
 use Rattle.machine.specs.Typed.{TypedClock}
-use Rattle.store.specs.HeldAt.{placeAt, recIn, keyIn, HeldAt}
-use Rattle.store.specs.MetLaws.{here-fine, here-sized}
-use Rattle.outbox.specs.Sending.{namesWidth, namesIn, chunkOf, pieceOut, stampedIn, Turn, Sends, Wakes, stampedDue, dueOf, sendRoom}
-use Rattle.outbox.specs.HereLaws.{here, first-is}
-use Rattle.outbox.specs.EntriesLaws.{chunk-is}
+use Rattle.machine.specs.Wake.{sendWakeRoom}
+use Rattle.store.specs.HeldAt.{placeAt, recIn, keyIn}
+use Rattle.outbox.specs.Leaves.{Here}
+use Rattle.outbox.specs.Sending.{namesWidth, namesIn, pieceOut, stampedIn, Turn, Sends, Wakes, stampedDue, dueOf}
+use Rattle.outbox.specs.HereLaws.{first-is}
+use Rattle.outbox.specs.EntriesLaws.{piece-is}
 use Rattle.outbox.specs.RoomLaws.{due-more, first-room, more-room, few}
-use Rattle.outbox.specs.PartlyLaws.{partly, change-is, unchanged, partly-links, partly-long, next-in, next-read, next-leads, next-stamped}
+use Rattle.outbox.specs.PartlyLaws.{Partly, change-is, unchanged, partly-links, partly-long, partly-all, next-in, next-read, next-leads, next-stamped}
 
--- n pieces were passed: those that were due stand in the run up to `pos` and are stamped; the first of those that are left is in the cell at place x
-pub record Going (b : List ℕ) (at clock : ℕ) (out d run : List ℕ) (x pos n : ℕ) : Type 0 where
+-- what the walk is given: a record that leaves, a clock of 64 bits, and room
+pub record Given (b : List ℕ) (link clock : ℕ) (out : List ℕ) : Type 0 where
+  pub here : Here b link
+  pub typed : TypedClock clock
+  pub room : sendWakeRoom ≤ length out
+
+-- n pieces were passed: those that were due stand in the run up to `at` and are stamped; the first that is left is in the cell at `place`
+pub record Going (b : List ℕ) (link clock : ℕ) (out d run : List ℕ) (place at n : ℕ) : Type 0 where
   pub sent : List Cell
   pub left : List Cell
-  pub parts : recIn b at .cells ≡ sent ++ left
   pub turns : n ≡ length sent
-  pub leads : x ≡ first (map cellPlace left)
-  pub store : d ≡ encode (partly clock b at sent left)
-  pub ends : pos ≡ length (dueOut clock (recIn b at .label) sent)
-  pub written : run ≡ put out 0 (dueOut clock (recIn b at .label) sent)
+  pub leads : place ≡ first (map cellPlace left)
+  pub store : Partly clock b link sent left d
+  pub ends : at ≡ length (dueOut clock (recIn b link .label) sent)
+  pub written : run ≡ put out 0 (dueOut clock (recIn b link .label) sent)
 
-module _ (b : List ℕ) (y : Bytes b) (at : ℕ) (h : HeldAt roleSend b at) (clock : ℕ) (t : TypedClock clock) (out : List ℕ) (room : sendRoom ≤ length out) where
+module _ {b : List ℕ} {link clock : ℕ} {out : List ℕ} (q : Given b link clock out) where
   abbrev r : Rec
-  r = recIn b at
+  r = recIn b link
 
-  pub going-start : (x : ℕ) → x ≡ getD b (recOff (placeAt b at) + firstCellAt) 0 → Going b at clock out b out x 0 0
+  abbrev h : Here b link
+  h = q .here
+
+  pub going-start : {place : ℕ} → place ≡ getD b (recOff (placeAt b link) + firstCellAt) 0 → Going b link clock out b out place 0 0
   unfolding dueOut changeAt
-  going-start x e = record {
+  going-start e = record {
     sent = [];
     left = r .cells;
-    parts = refl;
     turns = refl;
-    leads = e ∙ first-is b y at h;
-    store = sym (ap encode (change-is b y at h (withCells (r .cells))) ∙ unchanged b y at h);
+    leads = e ∙ first-is h;
+    store = record { parts = refl; is = sym (ap encode (change-is h (withCells (r .cells))) ∙ unchanged h) };
     ends = refl;
     written = sym (put-nil out 0);
   }
 
-  module _ (d run : List ℕ) (x pos n : ℕ) (g : Going b at clock out d run x pos n) where
+  module _ {d run : List ℕ} {place at n : ℕ} (g : Going b link clock out d run place at n) where
+    -- what was sent
+    abbrev v : List ℕ
+    v = dueOut clock (r .label) (g .sent)
+
+    fits : length v ≤ sendWakeRoom
+    fits = first-room h clock (g .sent) (g .left) (g .store .parts)
+
     pub going-long : (length d ≡ length b) × (length run ≡ length out)
-    going-long = (
-      partly-long b y at h clock t (g .sent) (g .left) (g .parts) d (g .store),
-      ap length (g .written)
-          ∙ length-put out 0 (dueOut clock (r .label) (g .sent)) (omega (arith, first-room clock r (here-fine roleSend b y at h) (here-sized roleSend b y at h .label) (g .sent) (g .left) (g .parts))),
-    )
+    going-long = (partly-long h (q .typed) (g .store), ap length (g .written) ∙ length-put out 0 v (omega (arith, fits, q .room)))
+
+    -- none is left, or c is next
+    by-left : {P : Type 0} → (Partly clock b link (g .sent) [] d → place ≡ 0 → P)
+        → ((c : Cell) (left : List Cell) → Partly clock b link (g .sent) (c ∷ left) d → place ≡ c .place → P) → P
+    by-left {P} none some = go (g .left) (g .store) (g .leads)
+      where
+        go : (left : List Cell) → Partly clock b link (g .sent) left d → place ≡ first (map cellPlace left) → P
+        go [] p e = none p e
+        go (c ∷ left) p e = some c left p e
 
     -- ---- a piece is left
 
-    module _ (names : List ℕ) (named : names ≡ namesIn b (placeAt b at)) where
-      pub going-turn : (x ≡ 0 → ⊥) → Turn d names x pos (length run)
-      going-turn z = go (g .left) (g .parts) (g .leads) (g .store)
-        where
-          go : (left : List Cell) → r .cells ≡ g .sent ++ left → x ≡ first (map cellPlace left) → d ≡ encode (partly clock b at (g .sent) left) → Turn d names x pos (length run)
-          go [] parts leads store = absurd (z leads)
-          go (c ∷ left) parts leads store =
-              let i = next-in b y at h clock t (g .sent) c left parts d store in
-              let e : readCell d x ≡ c = ap (readCell d) leads ∙ next-read b y at h clock t (g .sent) c left parts d store in
-              record {
-                links = partly-links b y at h clock t (g .sent) (c ∷ left) parts d store;
-                some = omega (arith, i .0);
-                most = omega (arith, i .1);
-                named = ap length named ∙ length-part b (recOff (placeAt b at) + idAt) namesWidth (omega (arith, here b y at h .row));
-                fits = omega (
-                  arith,
-                  ap (λ (a : Cell). length (a .bytes)) e,
-                  more-room clock r (here-fine roleSend b y at h) (here-sized roleSend b y at h .label) (g .sent) c left parts,
-                  g .ends,
-                  going-long .1,
-                );
-              }
+    module _ (z : place ≡ 0 → ⊥) {names : List ℕ} (named : names ≡ namesIn b (placeAt b link)) where
+      pub going-turn : Turn d names place at (length run)
+      going-turn = by-left (λ p e. absurd (z e)) (λ c left p e.
+          let i = next-in h (q .typed) p in
+          let read = ap (readCell d) e ∙ next-read h (q .typed) p in
+          record {
+            links = partly-links h (q .typed) p;
+            some = omega (arith, i .0);
+            most = omega (arith, i .1);
+            named = ap length named ∙ length-part b (recOff (placeAt b link) + idAt) namesWidth (omega (arith, h .row));
+            fits = omega (arith, q .room, ap (λ (a : Cell). length (a .bytes)) read, more-room h clock (g .sent) c left (p .parts), g .ends, going-long .1);
+          })
 
-      -- what is sent of a piece, by the record's names and by its head
-      piece-is : (c : Cell) → pieceOut clock names c ≡ cond (due clock c) (chunkOut (r .label) c) []
-      unfolding recOf
-      piece-is c = ap (λ (v : List ℕ). cond (due clock c) v []) (ap (λ (m : List ℕ). chunkOf m c) named ∙ chunk-is b (placeAt b at) c)
-
-      pub going-more : (x ≡ 0 → ⊥) → (next pos′ : ℕ) (d′ run′ : List ℕ) → next ≡ getD d (cellOff x) 0 → Sends clock names x pos d run pos′ d′ run′
-          → Going b at clock out d′ run′ next pos′ (n + 1)
-      going-more z next pos′ d′ run′ q s = go (g .left) (g .parts) (g .leads) (g .store)
-        where
-          go : (left : List Cell) → r .cells ≡ g .sent ++ left → x ≡ first (map cellPlace left) → d ≡ encode (partly clock b at (g .sent) left) → Going b at clock out d′ run′ next pos′ (n + 1)
-          go [] parts leads store = absurd (z leads)
-          go (c ∷ left) parts leads store =
-              let e : readCell d x ≡ c = ap (readCell d) leads ∙ next-read b y at h clock t (g .sent) c left parts d store in
-              let v : List ℕ = dueOut clock (r .label) (g .sent) in
-              let w : pieceOut clock names (readCell d x) ≡ cond (due clock c) (chunkOut (r .label) c) [] = ap (pieceOut clock names) e ∙ piece-is c in
-              let f : v ++ cond (due clock c) (chunkOut (r .label) c) [] ≡ dueOut clock (r .label) (g .sent ++ (c ∷ [])) = sym (due-more clock (r .label) (g .sent) c) in
-              record {
-                sent = g .sent ++ (c ∷ []);
-                left = left;
-                parts = parts ∙ sym (append-assoc (g .sent) (c ∷ []) left);
-                turns = omega (arith, g .turns, length-append (g .sent) (c ∷ []));
-                leads = q ∙ ap (λ (p : ℕ). getD d (cellOff p) 0) leads ∙ next-leads b y at h clock t (g .sent) c left parts d store;
-                store = s .store ∙ ap (stampedIn clock d) leads ∙ next-stamped b y at h clock t (g .sent) c left parts d store;
-                ends = s .ends ∙ (λ i. g .ends i + length (w i)) ∙ sym (length-append v (cond (due clock c) (chunkOut (r .label) c) [])) ∙ ap length f;
-                written = more out run run′ 0 pos v (cond (due clock c) (chunkOut (r .label) c) []) (g .written) (s .out ∙ ap (put run pos) w) (omega (arith, g .ends))
-                    (omega (arith, first-room clock r (here-fine roleSend b y at h) (here-sized roleSend b y at h .label) (g .sent) (c ∷ left) parts)) ∙ ap (put out 0) f;
-              }
+      pub going-more : {next at′ : ℕ} {d′ run′ : List ℕ} → next ≡ getD d (cellOff place) 0 → Sends clock names place at d run at′ d′ run′
+          → Going b link clock out d′ run′ next at′ (n + 1)
+      going-more {run′ = run′} o s = by-left (λ p e. absurd (z e)) (λ c left p e.
+          let one = cond (due clock c) (chunkOut (r .label) c) [] in
+          let w : pieceOut clock names (readCell d place) ≡ one =
+          ap (pieceOut clock names) (ap (readCell d) e ∙ next-read h (q .typed) p) ∙ piece-is b (placeAt b link) clock named c in
+          let f : v ++ one ≡ dueOut clock (r .label) (g .sent ++ (c ∷ [])) = sym (due-more clock (r .label) (g .sent) c) in
+          record {
+            sent = g .sent ++ (c ∷ []);
+            left = left;
+            turns = omega (arith, g .turns, length-append (g .sent) (c ∷ []));
+            leads = o ∙ ap (λ (k : ℕ). getD d (cellOff k) 0) e ∙ next-leads h (q .typed) p;
+            store = record {
+              parts = p .parts ∙ sym (append-assoc (g .sent) (c ∷ []) left);
+              is = s .store ∙ ap (stampedIn clock d) e ∙ next-stamped h (q .typed) p;
+            };
+            ends = s .ends ∙ (λ i. g .ends i + length (w i)) ∙ sym (length-append v one) ∙ ap length f;
+            written = more out run run′ 0 at v one (g .written) (s .out ∙ ap (put run at) w) (omega (arith, g .ends)) (omega (arith, fits, q .room))
+                ∙ ap (put out 0) f;
+          })
 
     -- ---- none is left
 
-    none-left : g .left ≡ [] → Wakes (stampedDue clock) (dueOf clock r) b at out pos d run
-    unfolding changeAt
-    none-left e =
-        let all : g .sent ≡ r .cells = sym (g .parts ∙ ap (λ (l : List Cell). g .sent ++ l) e ∙ append-nil (g .sent)) in
-        record {
-          ends = g .ends ∙ ap (λ (l : List Cell). length (dueOut clock (r .label) l)) all;
-          store = g .store ∙ (λ i. encode (partly clock b at (all i) (e i))) ∙ ap (λ (l : List Cell). encode (change (withCells l) (keyIn b at) (decode b))) (append-nil (map (stamped clock) (r .cells)))
-              ∙ ap encode (change-is b y at h (withCells (map (stamped clock) (r .cells))) ∙ sym (change-is b y at h (stampedDue clock)));
-          out = g .written ∙ ap (λ (l : List Cell). put out 0 (dueOut clock (r .label) l)) all;
-        }
+    abbrev Done : Type 0
+    Done = Wakes (change (stampedDue clock) (keyIn b link) (decode b)) (dueOf clock r) out at d run
 
-    pub going-done : x ≡ 0 → Wakes (stampedDue clock) (dueOf clock r) b at out pos d run
-    going-done z = none-left (go (g .left) (g .parts) (g .leads) (g .store))
-      where
-        go : (left : List Cell) → r .cells ≡ g .sent ++ left → x ≡ first (map cellPlace left) → d ≡ encode (partly clock b at (g .sent) left) → left ≡ []
-        go [] parts leads store = refl
-        go (c ∷ left) parts leads store = absurd (omega (arith, next-in b y at h clock t (g .sent) c left parts d store .0))
+    pub going-done : place ≡ 0 → Done
+    going-done z =
+        by-left
+        (λ p e. let all = partly-all h (q .typed) p in
+        record { starts = record { ends = rw (all .0) at (g .ends); out = rw (all .0) at (g .written) }; store = all .1 })
+        (λ c left p e. absurd (omega (arith, next-in h (q .typed) p .0)))
 
-    pub going-out : 46 ≤ n → Wakes (stampedDue clock) (dueOf clock r) b at out pos d run
-    going-out z = absurd (omega (arith, g .turns, few r (here-fine roleSend b y at h) (g .sent) (g .left) (g .parts)))
+    pub going-out : 46 ≤ n → Done
+    going-out z = absurd (omega (arith, g .turns, few h (g .sent) (g .left) (g .store .parts)))

@@ -1,11 +1,4 @@
-pub mod Sought
-pub mod States
-pub mod Reports
-pub mod Deadlines
 pub mod Sent
-pub mod Wakings
 pub mod Pushes
-pub mod Names
-pub mod Pieces
 pub mod Going
 pub mod Packets

@@ -11,7 +11,8 @@ use Rattle.machine.specs.Outcomes.{sendAt}
 
 module _ (row : ℕ) (s : Store) (sent b out : List ℕ) where
   -- the answer's number m is n, which the row gives
-  pub refused-out : (n m k w : ℕ) → n ≡ row → (n ≡ 0 → ⊥) → m ≡ n → k ≡ 0 → w ≡ 0 → record { number = m; run = k; wake = w; send = b; out = out } ≡ sendAt row s sent b out
+  pub refused-out : (n m k w : ℕ) → n ≡ row → (n ≡ 0 → ⊥) → m ≡ n → k ≡ 0 → w ≡ 0
+      → record { number = m; run = k; wake = w; send = b; out = out } ≡ sendAt row s sent b out
   refused-out n m k w e z p q r =
       (λ i. record { number = (p ∙ e) i; run = q i; wake = r i; send = b; out = out })
       ∙ sym (rw (ne-eqb row 0 (λ f. z (e ∙ f))))

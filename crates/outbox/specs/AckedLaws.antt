@@ -38,13 +38,17 @@ counted-all (c ∷ l) h =
 
 -- every piece is acknowledged where as many are as there are pieces
 pub acked-is : (l : List Cell) → eqb (acked l) (length l) ≡ allAcked l
-acked-is l = iff (eqb (acked l) (length l)) (allAcked l) (λ e. all-counted l (eqb-true (acked l) (length l) e)) (λ e. eq-eqb (acked l) (length l) (counted-all l e))
+acked-is l =
+    iff (eqb (acked l) (length l)) (allAcked l)
+    (λ e. all-counted l (eqb-true (acked l) (length l) e)) (λ e. eq-eqb (acked l) (length l) (counted-all l e))
 
 -- ---- nothing is due
 
 module _ (clock : ℕ) where
   acked-due : (c : Cell) → eqb (c .state) pieceAcked ≡ true → due clock c ≡ false
-  acked-due c h = let e = eqb-true (c .state) pieceAcked h in rw (ne-eqb (c .state) pieceStarted (λ z. omega arith), ne-eqb (c .state) pieceSent (λ z. omega arith))
+  acked-due c h =
+      let e = eqb-true (c .state) pieceAcked h in
+      rw (ne-eqb (c .state) pieceStarted (λ z. omega arith), ne-eqb (c .state) pieceSent (λ z. omega arith))
 
   pub acked-out : (h : Label) (l : List Cell) → allAcked l ≡ true → dueOut clock h l ≡ []
   unfolding dueOut

@@ -36,8 +36,11 @@ between low high [] m h = record { at = low; from = omega arith; below = tt; abo
     go : (low high : ℕ) (m : List Cell) → rising low high m ≡ true → All (λ (c : Cell). low ≤ c .index) m
     go low high [] h = tt
     go low high (c ∷ m) h =
-        let r = rising-parts low high c m h in
-        (r .0, all-to (λ (a : Cell). suc (c .index) ≤ a .index) (λ (a : Cell). low ≤ a .index) m (λ a q. omega (arith, r .0)) (go (suc (c .index)) high m (r .2)))
+        let r = rising-parts low high c m h in (
+          r .0,
+          all-to (λ (a : Cell). suc (c .index) ≤ a .index) (λ (a : Cell). low ≤ a .index) m (λ a q. omega (arith, r .0))
+              (go (suc (c .index)) high m (r .2)),
+        )
 between low high (c ∷ l) m h =
     let r = rising-parts low high c (l ++ m) h in
     let s = between (suc (c .index)) high l m (r .2) in

@@ -2,7 +2,8 @@
 use Prim.Native.Nat.{ℕ, _+_, _*_, _≤_}
 use native.Mathlib.Omega.{arith}
 use mathlib.Core.Path.{_≡_, sym, ap, _∙_}
-use mathlib.Core.List.{List}
+use mathlib.Core.Bool.{cond}
+use mathlib.Core.List.{List, []}
 use lib.ListN.{length}
 use Rattle.octets.specs.Octets.{part}
 use Rattle.octets.specs.PartsLaws.{length-part, part-part}
@@ -10,9 +11,9 @@ use Rattle.packet.specs.Outgoing.{entry, chunkPacket}
 use Rattle.packet.specs.LengthsLaws.{length-entry, length-chunk}
 use Rattle.machine.specs.Limits.{recBytes, cutBy}
 use Rattle.machine.specs.Values.{Cell}
-use Rattle.machine.specs.Layout.{idAt, sourceAt, destinationAt, idWidth, addressWidth, recOff, recAt, labelOf}
-use Rattle.machine.specs.Send.{sentBy, chunkOut}
-use Rattle.outbox.specs.Sending.{namesWidth, namesIn, entryOf, idOf, chunkOf}
+use Rattle.machine.specs.Layout.{idAt, sourceAt, destinationAt, idWidth, addressWidth, recOff, recAt, labelOf, recOf, readRec}
+use Rattle.machine.specs.Send.{sentBy, due, chunkOut}
+use Rattle.outbox.specs.Sending.{namesWidth, namesIn, entryOf, idOf, chunkOf, pieceOut}
 
 -- ---- lengths
 
@@ -28,7 +29,8 @@ module _ (names : List ℕ) (h : length names ≡ namesWidth) where
   pub chunk-length : (c : Cell) → length (chunkOf names c) ≡ 70 + length (c .bytes)
   unfolding chunkOf
   chunk-length c =
-      omega (arith, length-of (chunkPacket (idOf names) (c .index) (cutBy * c .index) (c .bytes)), length-chunk (idOf names) (c .bytes) (c .index) (cutBy * c .index) length-id)
+      let packet = chunkPacket (idOf names) (c .index) (cutBy * c .index) (c .bytes) in
+      omega (arith, length-of packet, length-chunk (idOf names) (c .bytes) (c .index) (cutBy * c .index) length-id)
 
 -- ---- the record
 
@@ -43,10 +45,19 @@ module _ (b : List ℕ) (k : ℕ) where
 
   pub entry-is : (packet : List ℕ) → entryOf (namesIn b k) packet ≡ sentBy (labelOf (recAt b k)) packet
   entry-is packet =
-      λ i. entry (name-is idWidth addressWidth sourceAt (omega arith) (omega arith) i) (name-is (idWidth + addressWidth) addressWidth destinationAt (omega arith) (omega arith) i) packet
+      let from = name-is idWidth addressWidth sourceAt (omega arith) (omega arith) in
+      let to = name-is (idWidth + addressWidth) addressWidth destinationAt (omega arith) (omega arith) in
+      λ i. entry (from i) (to i) packet
 
   pub chunk-is : (c : Cell) → chunkOf (namesIn b k) c ≡ chunkOut (labelOf (recAt b k)) c
   unfolding chunkOf
   chunk-is c =
       entry-is (chunkPacket (idOf (namesIn b k)) (c .index) (cutBy * c .index) (c .bytes))
       ∙ ap (λ (x : List ℕ). sentBy (labelOf (recAt b k)) (chunkPacket x (c .index) (cutBy * c .index) (c .bytes))) id-is
+
+  -- what is sent of a piece
+  pub piece-is : (clock : ℕ) {names : List ℕ} → names ≡ namesIn b k → (c : Cell)
+      → pieceOut clock names c ≡ cond (due clock c) (chunkOut (readRec b k .label) c) []
+  unfolding recOf
+  piece-is clock named c =
+      ap (λ (v : List ℕ). cond (due clock c) v []) (ap (λ (m : List ℕ). chunkOf m c) named ∙ chunk-is c)

@@ -3,45 +3,55 @@ use Prim.Native.Nat.{ℕ, suc, _+_}
 use native.Mathlib.Omega.{arith}
 use mathlib.Core.Path.{_≡_, sym, subst}
 use mathlib.Core.List.{List, map}
+use mathlib.Core.Option.{some}
 use lib.ListN.{getD}
 use Rattle.octets.specs.Octets.{Bytes}
 use Rattle.machine.specs.Limits.{recCount}
 use Rattle.machine.specs.Codes.{roleSend, kindLeaving}
 use Rattle.machine.specs.Chains.{first}
 use Rattle.machine.specs.Layout.{heldAt, firstCellAt, recOff, recOf, cellPlace, decode}
+use Rattle.machine.specs.Receive.{found}
 use Rattle.laws.specs.Fine.{fine-complete}
 use Rattle.links.specs.Links.{RecLink}
 use Rattle.links.specs.InRange.{links}
 use Rattle.store.specs.SoughtLaws.{seek-link}
 use Rattle.store.specs.HeldAt.{placeAt, recIn, keyIn, HeldAt}
-use Rattle.store.specs.MetLaws.{valid, rep, here-fine, here-sized, here-within, here-split, here-reached}
+use Rattle.store.specs.MetLaws.{valid, rep, held-here, here-fine, here-sized, here-within, here-split, here-reached}
 use Rattle.cells.specs.HeldLaws.{first-piece}
 use Rattle.outbox.specs.Leaves.{Here}
 
-pub here : (b : List ℕ) → Bytes b → (at : ℕ) → HeldAt roleSend b at → Here b at
-here b y at h =
+pub here : {b : List ℕ} {link : ℕ} → Bytes b → HeldAt roleSend b link → Here b link
+here {b} {link} y h =
     let l = links roleSend b y (h .sound) in
-    let z = here-within roleSend b y at h in
-    let f = here-fine roleSend b y at h in
-    let complete = fine-complete roleSend kindLeaving (recIn b at) (λ e. omega arith) f in
-    let i : RecLink b at = subst (RecLink b) (sym (h .is)) (seek-link (keyIn b at) b (suc recCount) heldAt l (l .held)) in
+    let z = here-within roleSend b y link h in
+    let f = here-fine roleSend b y link h in
+    let complete = fine-complete roleSend kindLeaving (recIn b link) (λ e. omega arith) f in
+    let i : RecLink b link = subst (RecLink b) (sym (h .is)) (seek-link (keyIn b link) b (suc recCount) heldAt l (l .held)) in
     record {
+      bytes = y;
       held = h;
-      reached = here-reached roleSend b y at h;
+      reached = here-reached roleSend b y link h;
       links = l;
       inside = omega (arith, i .inside, l .long);
       some = z .0;
       most = z .1;
       row = omega (arith, z .0, z .1, l .long);
-      small = l .firsts (placeAt b at) (z .0) (z .1);
-      sized = here-sized roleSend b y at h .label;
+      small = l .firsts (placeAt b link) (z .0) (z .1);
+      sized = here-sized roleSend b y link h .label;
       counted = complete .0;
       whole = omega (arith, complete .1, f .total);
     }
 
+-- it is found by its key
+pub found-here : {b : List ℕ} {link : ℕ} → Here b link → found (keyIn b link) (decode b .held) ≡ some (recIn b link)
+found-here {b} {link} h = held-here roleSend b (h .bytes) link (h .held)
+
 -- the record's link to its first piece
-pub first-is : (b : List ℕ) → Bytes b → (at : ℕ) → HeldAt roleSend b at → getD b (recOff (placeAt b at) + firstCellAt) 0 ≡ first (map cellPlace (recIn b at .cells))
+pub first-is : {b : List ℕ} {link : ℕ} → Here b link
+    → getD b (recOff (placeAt b link) + firstCellAt) 0 ≡ first (map cellPlace (recIn b link .cells))
 unfolding recOf
-first-is b y at h =
-    let q = here-split roleSend b y at h in
-    first-piece roleSend (decode b) (valid roleSend b y (h .sound)) (q .before) (recIn b at) (q .behind) (q .is) b (rep roleSend b y (h .sound))
+first-is {b} {link} h =
+    let s = h .held .sound in
+    let q = here-split roleSend b (h .bytes) link (h .held) in
+    first-piece roleSend (decode b) (valid roleSend b (h .bytes) s) (q .before) (recIn b link) (q .behind) (q .is) b
+    (rep roleSend b (h .bytes) s)

@@ -7,6 +7,6 @@ pub mod RoomLaws
 pub mod PartlyLaws
 pub mod AckedLaws
 pub mod WokenLaws
-pub mod Late
+pub mod Rows
 pub mod Pushing
 pub mod PushedLaws

@@ -22,7 +22,6 @@ use Rattle.laws.specs.FreeRow.{free-map}
 use Rattle.laws.specs.Rep.{Rep}
 use Rattle.laws.specs.Walks.{head-byte}
 use Rattle.steps.specs.Cut.{places-cut}
-use Rattle.steps.specs.Init.{LabelFine}
 use Rattle.steps.specs.Push.{leaving, leaving-sized, pushed-valid}
 use Rattle.links.specs.InRange.{links}
 use Rattle.links.specs.Byte.{first-byte}
@@ -32,7 +31,7 @@ use Rattle.links.specs.Encodes
 use Rattle.store.specs.MetLaws.{valid, rep}
 use Rattle.store.specs.EstablishedLaws.{free-is}
 use Rattle.store.specs.Opening.{Openable, newRec, openedRow, openedWith}
-use Rattle.store.specs.OpenedLaws.{open-chain}
+use Rattle.store.specs.OpenedLaws.{fine-fields, open-chain}
 use Rattle.outbox.specs.Pushing.{Pushable, firstPlace}
 
 -- the pieces of the bytes, the cells that stay free, and the bytes of the store with the pieces cut
@@ -64,13 +63,13 @@ module _ (b : List ℕ) (y : Bytes b) (h : Label) (bytes : List ℕ) (g : Pushab
       go n zero e = rw (eq-eqb n 0 (omega arith))
       go n (suc k) e = rw (ne-eqb n 0 (λ z. omega arith)) (head-byte roleSend s v b holds freeCellsAt (omega arith))
 
-  -- a head of bytes, and times that fit
-  module _ (fine : LabelFine h) (z : Bytes bytes) (created end : ℕ) (c : created < numberLimit) (e : end < numberLimit) where
+  -- data of bytes, and times that fit
+  module _ (z : Bytes bytes) (created end : ℕ) (c : created < numberLimit) (e : end < numberLimit) where
     abbrev r : Rec
     r = leaving (first (s .free)) h created end bytes (s .freeCells)
 
     sized : RecSized r
-    sized = leaving-sized (first (s .free)) h created end bytes (s .freeCells) fine z c e
+    sized = leaving-sized (first (s .free)) h created end bytes (s .freeCells) (g .fine) z c e
 
     parts : s .freeCells ≡ map cellPlace (piecesOf b bytes) ++ spareOf b bytes
     parts =
@@ -122,15 +121,15 @@ module _ (b : List ℕ) (y : Bytes b) (h : Label) (bytes : List ℕ) (g : Pushab
           ap (λ (n : ℕ). record { place = q; label = h; slots = slotsOf n; sending = new .sending; cells = piecesOf b bytes }) (g .total) in
           (λ i. put (put m (recOff (at i)) (recRow kindLeaving (cut-byte heldAt (omega arith) i) (newRec (at i) h created end (piecesOf b bytes)))) freeAt (getD m (recOff (at i)) 0 ∷ at i ∷ []))
           ∙ (λ i. put (put m (recOff q) (recRow (sym (ap heldKind (v .inRole)) i) (first (map recPlace (s .held))) (row i))) freeAt (behind i ∷ q ∷ []))
-          ∙ Encodes.push-encode roleSend b y (g .sound) q qs is new refl (leaving-sized q h created end bytes (s .freeCells) fine z c e) (spareOf b bytes) parts
-          (subst (Valid roleSend) with-new (pushed-valid h created end bytes s (g .held) (g .free) (g .cells) fine (g .total) z c e v))
+          ∙ Encodes.push-encode roleSend b y (g .sound) q qs is new refl (leaving-sized q h created end bytes (s .freeCells) (g .fine) z c e) (spareOf b bytes) parts
+          (subst (Valid roleSend) with-new (pushed-valid h created end bytes s (g .held) (g .free) (g .cells) (g .fine) (g .total) z c e v))
           ∙ ap encode (sym with-new)
 
     pub push-opened : (m l : List ℕ) (cell : ℕ) → m ≡ cutOf b bytes → cell ≡ firstPlace b (length bytes)
         → l ≡ openedRow kindLeaving cell h created end m → l ≡ encode (pushStep h created end bytes s)
     push-opened m l cell w f o =
         o ∙ ap (openedRow kindLeaving cell h created end) w
-        ∙ open-chain kindLeaving cell h (g .fits) created end (cutOf b bytes) cut-openable (piecesOf b bytes) (sym (f ∙ first-place))
+        ∙ open-chain kindLeaving cell h (fine-fields (g .fine)) created end (cutOf b bytes) cut-openable (piecesOf b bytes) (sym (f ∙ first-place))
         ∙ go (s .free) refl
       where
         go : (l : List ℕ) → s .free ≡ l

@@ -14,9 +14,12 @@ use Rattle.machine.specs.Values.{Label, Cell, Rec}
 use Rattle.machine.specs.Sound.{sizes}
 use Rattle.machine.specs.Valid.{LabelSized}
 use Rattle.machine.specs.Send.{due, chunkOut, dueOut}
-use Rattle.laws.specs.Fine.{Fine, fine-complete}
+use Rattle.machine.specs.Wake.{sendWakeRoom}
+use Rattle.laws.specs.Fine.{Fine}
 use Rattle.steps.specs.Leaving.{leaving-few}
-use Rattle.outbox.specs.Sending.{sendRoom}
+use Rattle.store.specs.HeldAt.{recIn}
+use Rattle.store.specs.MetLaws.{here-fine}
+use Rattle.outbox.specs.Leaves.{Here}
 
 sizes-append : (l m : List Cell) → sizes (l ++ m) ≡ sizes l + sizes m
 unfolding sizes
@@ -47,21 +50,28 @@ module _ (clock : ℕ) (h : Label) (z : LabelSized h) where
   due-room [] = omega arith
   due-room (c ∷ l) = omega (arith, one-room c, due-room l, length-append (cond (due clock c) (chunkOut h c) []) (dueOut clock h l))
 
--- a leaving record has few pieces
-pub few : (r : Rec) → Fine roleSend kindLeaving r → (l m : List Cell) → r .cells ≡ l ++ m → length l + length m ≤ slotsOf longest
-few r f l m e = omega (arith, ap length e ∙ length-append l m, leaving-few r f)
+module _ {b : List ℕ} {link : ℕ} (h : Here b link) where
+  abbrev r : Rec
+  r = recIn b link
 
-module _ (clock : ℕ) (r : Rec) (f : Fine roleSend kindLeaving r) (z : LabelSized (r .label)) where
+  fine : Fine roleSend kindLeaving r
+  fine = here-fine roleSend b (h .bytes) link (h .held)
+
+  -- it has few pieces
+  pub few : (l m : List Cell) → r .cells ≡ l ++ m → length l + length m ≤ slotsOf longest
+  few l m e = omega (arith, ap length e ∙ length-append l m, leaving-few r fine)
+
   -- the chunks of the first pieces fit; behind them there is room for one more
-  pub first-room : (l m : List Cell) → r .cells ≡ l ++ m → length (dueOut clock (r .label) l) ≤ sendRoom
-  first-room l m e =
+  pub first-room : (clock : ℕ) (l m : List Cell) → r .cells ≡ l ++ m → length (dueOut clock (r .label) l) ≤ sendWakeRoom
+  first-room clock l m e =
       let n : length (r .cells) ≡ length l + length m = ap length e ∙ length-append l m in
       let w : sizes (r .cells) ≡ sizes l + sizes m = ap sizes e ∙ sizes-append l m in
-      omega (arith, due-room clock (r .label) z l, leaving-few r f, fine-complete roleSend kindLeaving r (λ e. omega arith) f .1, f .total)
+      omega (arith, due-room clock (r .label) (h .sized) l, leaving-few r fine, h .whole)
 
-  pub more-room : (l : List Cell) (c : Cell) (m : List Cell) → r .cells ≡ l ++ (c ∷ m) → length (dueOut clock (r .label) l) + 70 + length (c .bytes) ≤ sendRoom
+  pub more-room : (clock : ℕ) (l : List Cell) (c : Cell) (m : List Cell) → r .cells ≡ l ++ (c ∷ m)
+      → length (dueOut clock (r .label) l) + 70 + length (c .bytes) ≤ sendWakeRoom
   unfolding sizes
-  more-room l c m e =
+  more-room clock l c m e =
       let n : length (r .cells) ≡ length l + suc (length m) = ap length e ∙ length-append l (c ∷ m) in
       let w : sizes (r .cells) ≡ sizes l + (length (c .bytes) + sizes m) = ap sizes e ∙ sizes-append l (c ∷ m) in
-      omega (arith, due-room clock (r .label) z l, leaving-few r f, fine-complete roleSend kindLeaving r (λ e. omega arith) f .1, f .total)
+      omega (arith, due-room clock (r .label) (h .sized) l, leaving-few r fine, h .whole)

@@ -1,4 +1,4 @@
--- What is sent of the pieces of a record, on bytes.
+-- What is sent of a record and of its pieces, on bytes.
 use Prim.Native.Nat.{ℕ, _+_, _*_, _≤_}
 use mathlib.Core.Path.{_≡_}
 use mathlib.Core.Bool.{cond}
@@ -8,13 +8,11 @@ use Rattle.octets.specs.Octets.{part, put}
 use Rattle.packet.specs.Outgoing.{entry, chunkPacket}
 use Rattle.machine.specs.Limits.{cutBy}
 use Rattle.machine.specs.Codes.{pieceSent}
-use Rattle.machine.specs.Values.{Cell, Rec}
-use Rattle.machine.specs.Layout.{countAt, idAt, idWidth, addressWidth, recOff, readCell, encode, decode}
-use Rattle.machine.specs.Send.{withCells, change, due, stamped, dueOut}
+use Rattle.machine.specs.Values.{Cell, Rec, Store}
+use Rattle.machine.specs.Layout.{countAt, idAt, idWidth, addressWidth, recOff, readCell, encode}
+use Rattle.machine.specs.Send.{withCells, due, stamped, dueOut, unsettled, abortedOut}
 use Rattle.links.specs.Links.{Links}
-use Rattle.store.specs.HeldAt.{keyIn}
 use Rattle.cells.specs.InPlace.{remarked}
-use Rattle.machine.specs.Wake.{sendWake, wakeRoom}
 
 -- a record's id, source and destination, as they stand in its row one behind the other
 abbrev pub namesWidth : ℕ
@@ -57,11 +55,15 @@ pub record Sends (clock : ℕ) (names : List ℕ) (k at : ℕ) (b run : List ℕ
   pub store : b′ ≡ stampedIn clock b k
   pub out : run′ ≡ put run at (pieceOut clock names (readCell b k))
 
--- the record that the link at byte `at` leads to, changed by f, was woken: `sent` stands at the start of the run, which goes on at r
-pub record Wakes (f : Rec → Rec) (sent : List ℕ) (b : List ℕ) (at : ℕ) (run : List ℕ) (r : ℕ) (b′ run′ : List ℕ) : Type 0 where
+-- `sent` stands at the start of the run, which goes on at r
+pub record Starts (sent run : List ℕ) (r : ℕ) (run′ : List ℕ) : Type 0 where
   pub ends : r ≡ length sent
-  pub store : b′ ≡ encode (change f (keyIn b at) (decode b))
   pub out : run′ ≡ put run 0 sent
+
+-- a record was woken: it sent that, and the store became s
+pub record Wakes (s : Store) (sent run : List ℕ) (r : ℕ) (b′ run′ : List ℕ) : Type 0 where
+  pub starts : Starts sent run r run′
+  pub store : b′ ≡ encode s
 
 -- the record with its due pieces stamped, and their chunks
 abbrev pub stampedDue : ℕ → Rec → Rec
@@ -70,6 +72,6 @@ stampedDue clock r = withCells (map (stamped clock) (r .cells)) r
 abbrev pub dueOf : ℕ → Rec → List ℕ
 dueOf clock r = dueOut clock (r .label) (r .cells)
 
--- a run buffer for a send wake: row 2
-abbrev pub sendRoom : ℕ
-sendRoom = wakeRoom sendWake
+-- the aborted packet of a record in state 0 or 1
+abbrev pub abortedOf : Rec → List ℕ
+abortedOf r = cond (unsettled r) (abortedOut (r .label)) []

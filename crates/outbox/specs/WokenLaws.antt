@@ -1,85 +1,97 @@
 -- The ways of a send wake, each with what it sends and what the store is then. Assumes nothing.
 use Prim.Native.Nat.{ℕ}
 use native.Mathlib.Omega.{arith}
-use mathlib.Core.Path.{_≡_, sym, ap, _∙_}
+use mathlib.Core.Path.{_≡_, refl, sym, ap, _∙_}
 use mathlib.Core.Bool.{true, false}
 use mathlib.Core.List.{List, [], append-nil}
-use lib.ListN.{length}
+use lib.Dec.{eqb}
 use borrow.Author.Tests.{eq-eqb, ne-eqb}
-use Rattle.octets.specs.Octets.{put, Bytes}
 use Rattle.octets.specs.PartsLaws.{put-nil}
-use Rattle.machine.specs.Codes.{roleSend, stateInit, stateInProgress}
-use Rattle.machine.specs.Values.{Cell, Rec}
-use Rattle.machine.specs.Layout.{encode, decode}
+use Rattle.machine.specs.Codes.{stateInit, stateInProgress}
+use Rattle.machine.specs.Values.{Cell, Rec, Store}
+use Rattle.machine.specs.Layout.{sendingOf, recOf, encode, decode}
 use Rattle.machine.specs.Receive.{replaced}
 use Rattle.machine.specs.Send.{withHeld, withCells, changeAt, change, allAcked, initOut, doneOut, progressOut, wakeOut, woken}
-use Rattle.store.specs.HeldAt.{recIn, keyIn, HeldAt}
-use Rattle.outbox.specs.Sending.{Wakes, stampedDue, dueOf}
+use Rattle.store.specs.HeldAt.{rowIn, recIn, keyIn}
+use Rattle.outbox.specs.Leaves.{Here}
+use Rattle.outbox.specs.Sending.{Starts, Wakes, stampedDue, dueOf}
 use Rattle.outbox.specs.AckedLaws.{acked-out, acked-kept}
 use Rattle.outbox.specs.PartlyLaws.{change-is, unchanged}
 
-module _ (b : List ℕ) (y : Bytes b) (at : ℕ) (h : HeldAt roleSend b at) (clock : ℕ) (run : List ℕ) where
+-- nothing is sent
+pub nothing : {run : List ℕ} → Starts [] run 0 run
+nothing {run} = record { ends = refl; out = sym (put-nil run 0) }
+
+-- the same store and packets, said otherwise
+pub alike : {s z : Store} {sent put run b′ run′ : List ℕ} {n : ℕ} → z ≡ s → put ≡ sent → Wakes z put run n b′ run′ → Wakes s sent run n b′ run′
+alike e q w = rw (← e, ← q) w
+
+module _ {b : List ℕ} {link : ℕ} (h : Here b link) where
   abbrev r : Rec
-  r = recIn b at
+  r = recIn b link
+
+  abbrev to : (Rec → Rec) → Store
+  to f = change f (keyIn b link) (decode b)
 
   -- two changes that make the same of the record
-  change-alike : (f g : Rec → Rec) → f r ≡ g r → change f (keyIn b at) (decode b) ≡ change g (keyIn b at) (decode b)
+  change-alike : (f g : Rec → Rec) → f r ≡ g r → to f ≡ to g
   unfolding changeAt
-  change-alike f g e = change-is b y at h f ∙ ap (λ (q : Rec). withHeld (replaced q (decode b .held)) (decode b)) e ∙ sym (change-is b y at h g)
+  change-alike f g e = change-is h f ∙ ap (λ (q : Rec). withHeld (replaced q (decode b .held)) (decode b)) e ∙ sym (change-is h g)
 
-  kept : (f : Rec → Rec) → f r ≡ r → b ≡ encode (change f (keyIn b at) (decode b))
+  -- the record stays
+  stays : (f : Rec → Rec) {sent put run out : List ℕ} {n : ℕ} → f r ≡ r → sent ≡ put → Starts put run n out → Wakes (to f) sent run n b out
   unfolding changeAt
-  kept f e = sym (ap encode (change-is b y at h f ∙ ap (λ (q : Rec). withHeld (replaced q (decode b .held)) (decode b)) e) ∙ unchanged b y at h)
+  stays f e q w = record { starts = rw q w; store = sym (ap encode (change-alike f (λ x. x) e ∙ change-is h (λ x. x)) ∙ unchanged h) }
 
-  -- what was sent is nothing, or one packet, and the record stays
-  nothing : (f : Rec → Rec) (sent : List ℕ) → f r ≡ r → sent ≡ [] → Wakes f sent b at run 0 b run
-  nothing f sent e s = record { ends = rw s; store = kept f e; out = rw s (sym (put-nil run 0)) }
+  module _ (clock : ℕ) where
+    -- ---- in progress
 
-  one-packet : (f : Rec → Rec) (sent entry : List ℕ) (n : ℕ) (out : List ℕ) → f r ≡ r → sent ≡ entry → n ≡ length entry → out ≡ put run 0 entry → Wakes f sent b at run n b out
-  one-packet f sent entry n out e s l o = record { ends = rw s l; store = kept f e; out = rw s o }
+    pub progress-done : {run out : List ℕ} {n : ℕ} → allAcked (r .cells) ≡ true → Starts (doneOut r) run n out
+        → Wakes (to (stampedDue clock)) (progressOut clock r) run n b out
+    progress-done a w =
+        stays (stampedDue clock) (ap (λ (x : List Cell). withCells x r) (acked-kept clock (r .cells) a))
+        (rw (a, acked-out clock (r .label) (r .cells) a)) w
 
-  -- ---- in progress
+    pub progress-due : allAcked (r .cells) ≡ false → dueOf clock r ≡ progressOut clock r
+    progress-due a = sym (rw a (append-nil (dueOf clock r)))
 
-  pub progress-done : (n : ℕ) (b′ out : List ℕ) → allAcked (r .cells) ≡ true → n ≡ length (doneOut r) → b′ ≡ b → out ≡ put run 0 (doneOut r)
-      → Wakes (stampedDue clock) (progressOut clock r) b at run n b′ out
-  progress-done n b′ out a l e o =
-      let w = one-packet (stampedDue clock) (progressOut clock r) (doneOut r) n out (ap (λ (x : List Cell). withCells x r) (acked-kept clock (r .cells) a))
-      (rw (a, acked-out clock (r .label) (r .cells) a)) l o in
-      record { ends = w .ends; store = e ∙ w .store; out = w .out }
+    -- ---- by the mark that is read, and by the state
 
-  pub progress-due : (n : ℕ) (b′ out : List ℕ) → allAcked (r .cells) ≡ false → Wakes (stampedDue clock) (dueOf clock r) b at run n b′ out
-      → Wakes (stampedDue clock) (progressOut clock r) b at run n b′ out
-  progress-due n b′ out a w =
-      let s : progressOut clock r ≡ dueOf clock r = rw a (append-nil (dueOf clock r)) in
-      record { ends = rw s (w .ends); store = w .store; out = rw s (w .out) }
+    abbrev Woken : List ℕ → ℕ → List ℕ → List ℕ → Type 0
+    Woken run n b′ out = Wakes (to (woken clock)) (wakeOut clock r) run n b′ out
 
-  -- ---- timed out; or else by its state
+    module _ {mark : ℕ} (m : mark ≡ sendingOf (rowIn b link) .timedOut) where
+      pub woke-late : {run : List ℕ} → mark ≡ 1 → Woken run 0 b run
+      unfolding wakeOut woken recOf
+      woke-late e = let q = eq-eqb (r .sending .timedOut) 1 (sym m ∙ e) in stays (woken clock) (rw q) (rw q) nothing
 
-  pub woke-late : r .sending .timedOut ≡ 1 → Wakes (woken clock) (wakeOut clock r) b at run 0 b run
-  unfolding wakeOut woken
-  woke-late e = nothing (woken clock) (wakeOut clock r) (rw (eq-eqb (r .sending .timedOut) 1 e)) (rw (eq-eqb (r .sending .timedOut) 1 e))
+      module _ (e : mark ≡ 1 → ⊥) {state : ℕ} (s : state ≡ sendingOf (rowIn b link) .state) where
+        unmarked : eqb (r .sending .timedOut) 1 ≡ false
+        unfolding recOf
+        unmarked = ne-eqb _ _ (λ z. e (m ∙ z))
 
-  module _ (e : r .sending .timedOut ≡ 1 → ⊥) where
-    pub woke-init : (n : ℕ) (out : List ℕ) → r .sending .state ≡ stateInit → n ≡ length (initOut (r .label)) → out ≡ put run 0 (initOut (r .label))
-        → Wakes (woken clock) (wakeOut clock r) b at run n b out
-    unfolding wakeOut woken
-    woke-init n out s l o =
-        one-packet (woken clock) (wakeOut clock r) (initOut (r .label)) n out
-        (rw (ne-eqb (r .sending .timedOut) 1 e, ne-eqb (r .sending .state) stateInProgress (λ z. omega arith)))
-        (rw (ne-eqb (r .sending .timedOut) 1 e, eq-eqb (r .sending .state) stateInit s)) l o
+        is : (n : ℕ) → state ≡ n → eqb (r .sending .state) n ≡ true
+        unfolding recOf
+        is n z = eq-eqb _ _ (sym s ∙ z)
 
-    pub woke-progress : (n : ℕ) (b′ out : List ℕ) → r .sending .state ≡ stateInProgress → Wakes (stampedDue clock) (progressOut clock r) b at run n b′ out
-        → Wakes (woken clock) (wakeOut clock r) b at run n b′ out
-    unfolding wakeOut woken
-    woke-progress n b′ out s w =
-        let q : wakeOut clock r ≡ progressOut clock r =
-        rw (ne-eqb (r .sending .timedOut) 1 e, ne-eqb (r .sending .state) stateInit (λ z. omega arith), eq-eqb (r .sending .state) stateInProgress s) in
-        let f : stampedDue clock r ≡ woken clock r = rw (ne-eqb (r .sending .timedOut) 1 e, eq-eqb (r .sending .state) stateInProgress s) in
-        record { ends = w .ends ∙ ap length (sym q); store = w .store ∙ ap encode (change-alike (stampedDue clock) (woken clock) f); out = w .out ∙ ap (put run 0) (sym q) }
+        is-not : (n : ℕ) → (state ≡ n → ⊥) → eqb (r .sending .state) n ≡ false
+        unfolding recOf
+        is-not n z = ne-eqb _ _ (λ w. z (s ∙ w))
 
-    pub woke-settled : (r .sending .state ≡ stateInit → ⊥) → (r .sending .state ≡ stateInProgress → ⊥) → Wakes (woken clock) (wakeOut clock r) b at run 0 b run
-    unfolding wakeOut woken
-    woke-settled i p =
-        nothing (woken clock) (wakeOut clock r)
-        (rw (ne-eqb (r .sending .timedOut) 1 e, ne-eqb (r .sending .state) stateInProgress p))
-        (rw (ne-eqb (r .sending .timedOut) 1 e, ne-eqb (r .sending .state) stateInit i, ne-eqb (r .sending .state) stateInProgress p))
+        pub woke-init : {run out : List ℕ} {n : ℕ} → state ≡ stateInit → Starts (initOut (r .label)) run n out → Woken run n b out
+        unfolding wakeOut woken
+        woke-init z w = stays (woken clock) (rw (unmarked, is-not stateInProgress (λ y. omega arith))) (rw (unmarked, is stateInit z)) w
+
+        pub woke-progress : {run b′ out : List ℕ} {n : ℕ} → state ≡ stateInProgress
+            → Wakes (to (stampedDue clock)) (progressOut clock r) run n b′ out → Woken run n b′ out
+        unfolding wakeOut woken
+        woke-progress z w =
+            let p = is stateInProgress z in
+            alike (change-alike (stampedDue clock) (woken clock) (rw (unmarked, p)))
+            (sym (rw (unmarked, is-not stateInit (λ y. omega arith), p))) w
+
+        pub woke-settled : {run : List ℕ} → (state ≡ stateInit → ⊥) → (state ≡ stateInProgress → ⊥) → Woken run 0 b run
+        unfolding wakeOut woken
+        woke-settled i p =
+            let g = is-not stateInProgress p in
+            stays (woken clock) (rw (unmarked, g)) (rw (unmarked, is-not stateInit i, g)) nothing

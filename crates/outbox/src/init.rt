@@ -1,31 +1,32 @@
 // The init of a record, sent again until it is acknowledged.
 use packet::init::MessageInit;
+use packet::label::labelled;
 use packet::run;
 use store::field;
-ghost use mathlib.Core.Path.{_≡_};
 ghost use Prim.Native.Nat.{_≤_};
 ghost use lib.ListN.{length};
-ghost use Rattle.octets.specs.Octets.{put};
 ghost use Rattle.machine.specs.Send.{initOut};
+ghost use Rattle.machine.specs.Wake.{sendWakeRoom};
 ghost use Rattle.store.specs.HeldAt.{recIn};
 ghost use Rattle.outbox.specs.Leaves.{Here};
-ghost use Rattle.outbox.specs.Sending.{sendRoom};
+ghost use Rattle.outbox.specs.Sending.{Starts};
 
-// The init of the record that the link at byte `link` leads to, as the run's one entry; answers where it ends.
-pub fn put_init(store: &[u8], link: usize, out: &mut [u8]) -> usize
-    requires { ⌜ Here (now store) link × (sendRoom ≤ length (now out)) ⌝ }
-    ensures { λ r. ⌜ (r ≡ length (initOut (recIn (now (store .entry)) link .label))) × (now (out .exit) ≡ put (now (out .entry)) 0 (initOut (recIn (now (store .entry)) link .label))) ⌝ }
+// The init of the record that the link at byte `link` leads to, as the run's one entry; answers where it
+// ends.
+pub fn put_init(send: &[u8], link: usize, run: &mut [u8]) -> usize
+    requires { ⌜ Here (now send) link × (sendWakeRoom ≤ length (now run)) ⌝ }
+    ensures { λ r.
+        let sent = initOut (recIn (now (send .entry)) link .label) in
+        ⌜ Starts sent (now (run .entry)) r (now (run .exit)) ⌝ }
 {
-    let topic = field::topic(store, link);
-    run::put_init(
-        out,
-        0,
-        field::source(store, link),
-        field::destination(store, link),
-        field::id(store, link),
-        field::reply(store, link) == 1,
-        field::total(store, link),
-        topic,
+    let topic = field::topic(send, link);
+    let label = labelled(
+        field::id(send, link),
+        field::source(send, link),
+        field::destination(send, link),
+        field::reply(send, link) == 1,
+        field::total(send, link),
     );
+    run::put_init(run, 0, label, topic);
     run::PACKET + MessageInit::TOPIC + topic.len()
 }

@@ -37,55 +37,60 @@ fn passed(stamp: u64, clock: u64) -> bool
     RESEND_AFTER <= clock - stamp
 }
 
-// Whether the piece in a cell is due.
-pub fn is_due(store: &[u8], cell: usize, clock: u64) -> bool
-    requires { ⌜ CellIn (now store) cell ⌝ }
-    ensures { λ r. ⌜ r ≡ due clock (readCell (now (store .entry)) cell) ⌝ }
+// Whether the piece in the cell at a place is due.
+pub fn is_due(send: &[u8], place: usize, clock: u64) -> bool
+    requires { ⌜ CellIn (now send) place ⌝ }
+    ensures { λ r. ⌜ r ≡ due clock (readCell (now (send .entry)) place) ⌝ }
 {
-    let at = cell_at(cell);
-    let state = store[at + Cell::STATE];
-    let again = passed(get64(store, at + Cell::STAMP), clock);
+    let row = cell_at(place);
+    let state = send[row + Cell::STATE];
+    let again = passed(get64(send, row + Cell::STAMP), clock);
     (state == STARTED) | ((state == SENT) & again)
 }
 
-// A piece, put at `at` as a chunk from a source to a destination; answers where it ends.
-fn put_piece(store: &[u8], cell: usize, names: &[u8], out: &mut [u8], at: usize) -> usize
-    requires { ⌜ Turn (now store) (now names) cell at (length (now out)) ⌝ }
-    ensures { λ r. ⌜ (r ≡ at + length (chunkOf (now (names .entry)) (readCell (now (store .entry)) cell))) × (now (out .exit) ≡ put (now (out .entry)) at (chunkOf (now (names .entry)) (readCell (now (store .entry)) cell))) ⌝ }
+// The piece, put at `at` as a chunk from a source to a destination; answers where it ends.
+fn put_piece(send: &[u8], place: usize, names: &[u8], run: &mut [u8], at: usize) -> usize
+    requires { ⌜ Turn (now send) (now names) place at (length (now run)) ⌝ }
+    ensures { λ r.
+        let chunk = chunkOf (now (names .entry)) (readCell (now (send .entry)) place) in
+        ⌜ (r ≡ at + length chunk) × (now (run .exit) ≡ put (now (run .entry)) at chunk) ⌝ }
 {
-    let from = cell_at(cell);
-    let index = wide(store[from + Cell::INDEX]);
-    let size = get16(store, from + Cell::SIZE) as usize;
-    let start = from + Cell::PIECE;
+    let row = cell_at(place);
+    let index = wide(send[row + Cell::INDEX]);
+    let size = get16(send, row + Cell::SIZE) as usize;
+    let start = row + Cell::PIECE;
     let end = start + size;
     run::put_chunk(
-        out,
+        run,
         at,
         &names[SOURCE..DESTINATION],
         &names[DESTINATION..NAMES],
         &names[0..SOURCE],
         index,
         CUT * index,
-        &store[start..end],
+        &send[start..end],
     );
     at + run::PACKET + MessageChunk::PIECE + size
 }
 
-// The piece in a cell, sent and stamped if it is due; answers where the run goes on.
+// The piece, sent and stamped if it is due; answers where the run goes on.
 pub fn send_piece(
-    store: &mut [u8],
-    cell: usize,
+    send: &mut [u8],
+    place: usize,
     names: &[u8],
     clock: u64,
-    out: &mut [u8],
+    run: &mut [u8],
     at: usize,
 ) -> usize
-    requires { ⌜ Turn (now store) (now names) cell at (length (now out)) ⌝ }
-    ensures { λ r. ⌜ Sends clock (now (names .entry)) cell at (now (store .entry)) (now (out .entry)) r (now (store .exit)) (now (out .exit)) ⌝ }
+    requires { ⌜ Turn (now send) (now names) place at (length (now run)) ⌝ }
+    ensures { λ r.
+        let b = now (send .entry) in
+        let names = now (names .entry) in
+        ⌜ Sends clock names place at b (now (run .entry)) r (now (send .exit)) (now (run .exit)) ⌝ }
 {
-    if is_due(store, cell, clock) {
-        let end = put_piece(store, cell, names, out, at);
-        mark(store, cell, clock, SENT);
+    if is_due(send, place, clock) {
+        let end = put_piece(send, place, names, run, at);
+        mark(send, place, clock, SENT);
         return end;
     }
     at

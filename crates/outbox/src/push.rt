@@ -1,25 +1,27 @@
 // Push: a message starts to leave. Its data is cut by 1,300 into free cells, its record is opened, and its init is sent.
 use answer::Answer;
-use cells::pieces::LONGEST;
 use packet::init::MessageInit;
+use packet::label::Label;
 use packet::run;
 use rows::head::Head;
 use rows::message;
 use store::find;
+use store::open::Times;
 ghost use mathlib.Core.Path.{_≡_};
 ghost use mathlib.Core.List.{[]};
-ghost use Prim.Native.Nat.{_+_, _≤_};
+ghost use Prim.Native.Nat.{_<_, _≤_};
 ghost use lib.ListN.{length};
 ghost use lib.Dec.{leb};
+ghost use Rattle.packet.specs.Named.{Named};
 ghost use Rattle.machine.specs.Limits.{longest, slotsOf};
-ghost use Rattle.machine.specs.Layout.{encode, decode};
+ghost use Rattle.machine.specs.Layout.{numberLimit, encode, decode};
 ghost use Rattle.machine.specs.Refusals.{refusal};
 ghost use Rattle.machine.specs.Send.{pushStep, initOut};
 ghost use Rattle.machine.specs.Outcomes.{sendAt};
 ghost use Rattle.machine.specs.Push.{pushLabel, pushed, pushTests};
 ghost use Rattle.store.specs.HeldAt.{Sends};
 ghost use Rattle.store.specs.Opening.{newLabel};
-ghost use Rattle.outbox.specs.Pushing.{Pushable, firstPlace};
+ghost use Rattle.outbox.specs.Pushing.{Pushable, firstPlace, pushes, pushedInto};
 
 // The most bytes of a topic.
 const LARGEST_TOPIC: usize = 255;
@@ -49,7 +51,9 @@ fn refusal(
     room: usize,
 ) -> u64
     requires { ⌜ Sends (now send) ⌝ }
-    ensures { λ r. ⌜ r ≡ refusal (pushTests (pushed (now (id .entry)) 0 [] [] (now (topic .entry)) (now (bytes .entry)) created «try_ms») (decode (now (send .entry))) room) ⌝ }
+    ensures { λ r.
+        let p = pushed (now (id .entry)) 0 [] [] (now (topic .entry)) (now (bytes .entry)) created «try_ms» in
+        ⌜ r ≡ refusal (pushTests p (decode (now (send .entry))) room) ⌝ }
 {
     if room < ROOM {
         return answer::SHORT_OUTPUT;
@@ -57,7 +61,7 @@ fn refusal(
     if topic.len() > LARGEST_TOPIC {
         return answer::TOPIC_TOO_LARGE;
     }
-    if bytes.len() > LONGEST {
+    if bytes.len() > message::LONGEST_BYTES {
         return answer::TOO_LONG;
     }
     if created > LATEST - try_ms {
@@ -87,68 +91,47 @@ fn first_place(send: &[u8], size: usize) -> u8
 }
 
 // A push that is not refused: the pieces of the message are cut, and its record is held.
-fn hold(
-    send: &mut [u8],
-    id: &[u8],
-    from: &[u8],
-    to: &[u8],
-    reply: bool,
-    topic: &[u8],
-    bytes: &[u8],
-    created: u64,
-    end: u64,
-)
-    requires { ⌜ Pushable (now send) (newLabel (now id) (now from) (now to) reply (length (now bytes)) (now topic)) (now bytes) ⌝ }
-    ensures { λ _. ⌜ now (send .exit) ≡ encode (pushStep (newLabel (now (id .entry)) (now (from .entry)) (now (to .entry)) reply (length (now (bytes .entry))) (now (topic .entry))) created end (now (bytes .entry)) (decode (now (send .entry)))) ⌝ }
+fn hold(send: &mut [u8], label: Label, topic: &[u8], bytes: &[u8], times: Times)
+    requires { ⌜ Pushable (now send) (newLabel label (now topic)) (now bytes) ⌝ }
+    requires { ⌜ (times .created < numberLimit) × (times .end < numberLimit) ⌝ }
+    ensures { λ _.
+        let h = newLabel label (now (topic .entry)) in
+        let s = decode (now (send .entry)) in
+        ⌜ now (send .exit) ≡ encode (pushStep h (times .created) (times .end) (now (bytes .entry)) s) ⌝ }
 {
     let cell = first_place(send, bytes.len());
     cells::cut::cut(send, bytes);
-    store::open::open_leaving(
-        send,
-        cell,
-        id,
-        from,
-        to,
-        reply,
-        bytes.len() as u64,
-        topic,
-        created,
-        end,
-    );
+    store::open::open_leaving(send, cell, label, topic, times);
 }
 
 // The message starts to leave: the store with its record, and its init in the run.
 pub fn push(
     send: &mut [u8],
-    id: &[u8],
-    reply: u64,
-    from: &[u8],
-    to: &[u8],
+    label: Label,
     topic: &[u8],
     bytes: &[u8],
     created: u64,
     try_ms: u64,
     run: &mut [u8],
 ) -> Answer
-    requires { ⌜ Sends (now send) × (length (now id) ≡ 8) × (length (now from) ≡ 16) × (length (now to) ≡ 16) ⌝ }
-    ensures { λ r. ⌜ record { number = r .number; run = r .run; wake = r .wake; send = now (send .exit); out = now (run .exit) } ≡ sendAt (refusal (pushTests (pushed (now (id .entry)) reply (now (from .entry)) (now (to .entry)) (now (topic .entry)) (now (bytes .entry)) created «try_ms») (decode (now (send .entry))) (length (now (run .entry))))) (pushStep (pushLabel (pushed (now (id .entry)) reply (now (from .entry)) (now (to .entry)) (now (topic .entry)) (now (bytes .entry)) created «try_ms»)) created (created + «try_ms») (now (bytes .entry)) (decode (now (send .entry)))) (initOut (pushLabel (pushed (now (id .entry)) reply (now (from .entry)) (now (to .entry)) (now (topic .entry)) (now (bytes .entry)) created «try_ms»))) (now (send .entry)) (now (run .entry)) ⌝ }
+    requires { ⌜ Sends (now send) × Named label × (label .total ≡ length (now bytes)) ⌝ }
+    ensures { λ r.
+        let b = now (send .entry) in
+        let o = now (run .entry) in
+        let p = pushes label (now (topic .entry)) (now (bytes .entry)) created «try_ms» in
+        ⌜ record { number = r .number; run = r .run; wake = r .wake; send = now (send .exit); out = now (run .exit) }
+        ≡ sendAt (refusal (pushTests p (decode b) (length o))) (pushedInto p (decode b)) (initOut (pushLabel p)) b o ⌝ }
 {
-    let number = refusal(send, id, topic, bytes, created, try_ms, run.len());
+    let id = label.id;
+    let number = refusal(send, &id, topic, bytes, created, try_ms, run.len());
     if number != answer::DONE {
         return answer::refuse(number);
     }
-    let is_reply = reply != 0;
-    hold(
-        send,
-        id,
-        from,
-        to,
-        is_reply,
-        topic,
-        bytes,
-        created,
-        created + try_ms,
-    );
-    run::put_init(run, 0, from, to, id, is_reply, bytes.len() as u64, topic);
+    let times = Times {
+        created: created,
+        end: created + try_ms,
+    };
+    hold(send, label, topic, bytes, times);
+    run::put_init(run, 0, label, topic);
     answer::sent((run::PACKET + MessageInit::TOPIC + topic.len()) as u64)
 }

@@ -7,7 +7,8 @@ ghost use Rattle.store.specs.HeldAt.{placeAt};
 ghost use Rattle.outbox.specs.Leaves.{Here};
 ghost use Rattle.outbox.specs.Sending.{namesIn};
 
-// Its id, its source and its destination stand one behind the other: places among them, and the bytes of all three.
+// Its id, its source and its destination stand one behind the other: places among them, and the bytes of all
+// three.
 pub const SOURCE: usize = Record::SOURCE - Record::ID;
 
 pub const DESTINATION: usize = Record::DESTINATION - Record::ID;
@@ -15,14 +16,14 @@ pub const DESTINATION: usize = Record::DESTINATION - Record::ID;
 pub const NAMES: usize = Record::LENGTH - Record::ID;
 
 // Id, source and destination.
-pub fn names_at(store: &[u8], link: usize) -> [u8; NAMES]
-    requires { ⌜ Here (now store) link ⌝ }
-    ensures { λ r. ⌜ r ≡ namesIn (now (store .entry)) (placeAt (now (store .entry)) link) ⌝ }
+pub fn names_at(send: &[u8], link: usize) -> [u8; NAMES]
+    requires { ⌜ Here (now send) link ⌝ }
+    ensures { λ r. let b = now (send .entry) in ⌜ r ≡ namesIn b (placeAt b link) ⌝ }
 {
-    let row = store::place::row_at(store, link);
+    let row = store::place::row_at(send, link);
     let start = row + Record::ID;
     let end = row + Record::LENGTH;
     let mut names = [0u8; NAMES];
-    copy_in(&mut names, 0, &store[start..end]);
+    copy_in(&mut names, 0, &send[start..end]);
     names
 }

@@ -1,7 +1,7 @@
 // The wakes: PROTOCOL, "The tablet".
 use crate::deadline::deadline_wake;
 use crate::done::all_acked;
-use crate::done::send_done;
+use crate::done::put_done;
 use crate::due::send_due;
 use crate::init::put_init;
 use crate::record::names_at;
@@ -13,21 +13,21 @@ use rows::record::INIT;
 use store::field;
 ghost use mathlib.Core.Path.{_≡_};
 ghost use mathlib.Core.Bool.{_||_};
-ghost use mathlib.Core.List.{_∷_};
 ghost use mathlib.Core.Option.{some};
 ghost use Prim.Native.Nat.{_≤_};
 ghost use lib.ListN.{length};
-ghost use lib.Dec.{eqb, leb};
-ghost use Rattle.octets.specs.Octets.{put};
+ghost use lib.Dec.{eqb};
 ghost use Rattle.machine.specs.Codes.{roleSend};
-ghost use Rattle.machine.specs.Layout.{encode, decode};
+ghost use Rattle.machine.specs.Layout.{decode};
 ghost use Rattle.machine.specs.Receive.{found};
-ghost use Rattle.machine.specs.Refusals.{refusal, heldRow};
+ghost use Rattle.machine.specs.Refusals.{refusal};
 ghost use Rattle.machine.specs.Send.{change, progressOut, wakeOut, woken};
 ghost use Rattle.machine.specs.Outcomes.{sendAt};
-ghost use Rattle.machine.specs.Wake.{sendWake, deadlineWake, wakeRoom, wakeRun, wakeStep};
+ghost use Rattle.machine.specs.Wake.{sendWake, deadlineWake, sendWakeRoom, wakeRoom, wakeRun, wakeStep};
 ghost use Rattle.store.specs.HeldAt.{recIn, keyIn, HeldAt, Sends};
-ghost use Rattle.outbox.specs.Sending.{sendRoom, Wakes, stampedDue};
+ghost use Rattle.outbox.specs.Leaves.{Here};
+ghost use Rattle.outbox.specs.Rows.{wakeTests};
+ghost use Rattle.outbox.specs.Sending.{Wakes, stampedDue};
 
 // The kinds of a wake.
 const SEND: u64 = 1;
@@ -39,32 +39,42 @@ const SEND_ROOM: usize = 34250;
 
 const DEADLINE_ROOM: usize = run::PACKET + header::SIZE;
 
-// A record in progress: its due pieces are sent, or the done once every piece is acknowledged; answers where the run ends.
-fn progress(store: &mut [u8], link: usize, clock: u64, out: &mut [u8]) -> usize
-    requires { ⌜ HeldAt roleSend (now store) link × (sendRoom ≤ length (now out)) ⌝ }
-    ensures { λ r. ⌜ Wakes (stampedDue clock) (progressOut clock (recIn (now (store .entry)) link)) (now (store .entry)) link (now (out .entry)) r (now (store .exit)) (now (out .exit)) ⌝ }
+// A record in progress: its due pieces are sent, or the done once every piece is acknowledged; answers where
+// the run ends.
+fn progress(send: &mut [u8], link: usize, clock: u64, run: &mut [u8]) -> usize
+    requires { ⌜ Here (now send) link × (sendWakeRoom ≤ length (now run)) ⌝ }
+    ensures { λ r.
+        let b = now (send .entry) in
+        let s = change (stampedDue clock) (keyIn b link) (decode b) in
+        let sent = progressOut clock (recIn b link) in
+        ⌜ Wakes s sent (now (run .entry)) r (now (send .exit)) (now (run .exit)) ⌝ }
 {
-    if all_acked(store, link) {
-        return send_done(store, link, out);
+    if all_acked(send, link) {
+        return put_done(send, link, run);
     }
-    let names = names_at(store, link);
-    send_due(store, link, &names, clock, out)
+    let names = names_at(send, link);
+    send_due(send, link, &names, clock, run)
 }
 
-// What the record that the link at byte `at` leads to sends, at the start of the run; answers where it ends.
-pub fn send_wake(send: &mut [u8], at: usize, clock: u64, run: &mut [u8]) -> usize
-    requires { ⌜ HeldAt roleSend (now send) at × (sendRoom ≤ length (now run)) ⌝ }
-    ensures { λ r. ⌜ (r ≡ length (wakeOut clock (recIn (now (send .entry)) at))) × (now (send .exit) ≡ encode (change (woken clock) (keyIn (now (send .entry)) at) (decode (now (send .entry))))) × (now (run .exit) ≡ put (now (run .entry)) 0 (wakeOut clock (recIn (now (send .entry)) at))) ⌝ }
+// What the record that the link at byte `link` leads to sends, at the start of the run; answers where it
+// ends.
+pub fn send_wake(send: &mut [u8], link: usize, clock: u64, run: &mut [u8]) -> usize
+    requires { ⌜ HeldAt roleSend (now send) link × (sendWakeRoom ≤ length (now run)) ⌝ }
+    ensures { λ r.
+        let b = now (send .entry) in
+        let s = change (woken clock) (keyIn b link) (decode b) in
+        let sent = wakeOut clock (recIn b link) in
+        ⌜ Wakes s sent (now (run .entry)) r (now (send .exit)) (now (run .exit)) ⌝ }
 {
-    if field::timed_out(send, at) == 1 {
+    if field::timed_out(send, link) == 1 {
         return 0;
     }
-    let state = field::state(send, at);
+    let state = field::state(send, link);
     if state == INIT {
-        return put_init(send, at, run);
+        return put_init(send, link, run);
     }
     if state == IN_PROGRESS {
-        return progress(send, at, clock, run);
+        return progress(send, link, clock, run);
     }
     0
 }
@@ -86,21 +96,38 @@ fn room(kind: u64) -> usize
     DEADLINE_ROOM
 }
 
-// The record that the link at byte `at` leads to is woken; answers where the run ends.
-fn wake_record(send: &mut [u8], kind: u64, at: usize, clock: u64, run: &mut [u8]) -> usize
-    requires { ⌜ HeldAt roleSend (now send) at × (wakeRoom kind ≤ length (now run)) ⌝ }
-    ensures { λ r. ⌜ (r ≡ length (wakeRun kind clock (some (recIn (now (send .entry)) at)))) × (now (send .exit) ≡ encode (wakeStep kind (keyIn (now (send .entry)) at) clock (decode (now (send .entry))))) × (now (run .exit) ≡ put (now (run .entry)) 0 (wakeRun kind clock (some (recIn (now (send .entry)) at)))) ⌝ }
+// The record that the link at byte `link` leads to is woken; answers where the run ends.
+fn wake_record(send: &mut [u8], kind: u64, link: usize, clock: u64, run: &mut [u8]) -> usize
+    requires { ⌜ Here (now send) link × (wakeRoom kind ≤ length (now run)) ⌝ }
+    ensures { λ r.
+        let b = now (send .entry) in
+        let s = wakeStep kind (keyIn b link) clock (decode b) in
+        let sent = wakeRun kind clock (some (recIn b link)) in
+        ⌜ Wakes s sent (now (run .entry)) r (now (send .exit)) (now (run .exit)) ⌝ }
 {
     if kind == SEND {
-        return send_wake(send, at, clock, run);
+        return send_wake(send, link, clock, run);
     }
-    deadline_wake(send, at, run)
+    deadline_wake(send, link, run)
 }
 
 // A wake of the record with that id: what it sends, and the store after it.
 pub fn wake(send: &mut [u8], kind: u64, id: &[u8], clock: u64, run: &mut [u8]) -> Answer
     requires { ⌜ Sends (now send) ⌝ }
-    ensures { λ r. ⌜ record { number = r .number; run = r .run; wake = r .wake; send = now (send .exit); out = now (run .exit) } ≡ sendAt (refusal ((eqb kind sendWake || eqb kind deadlineWake, 20) ∷ (leb (wakeRoom kind) (length (now (run .entry))), 2) ∷ heldRow (found (now (id .entry)) (decode (now (send .entry)) .held)))) (wakeStep kind (now (id .entry)) clock (decode (now (send .entry)))) (wakeRun kind clock (found (now (id .entry)) (decode (now (send .entry)) .held))) (now (send .entry)) (now (run .entry)) ⌝ }
+    ensures { λ r.
+        let b = now (send .entry) in
+        let k = now (id .entry) in
+        let out = now (run .entry) in
+        let s = decode b in
+        let o = found k (s .held) in
+        ⌜ record {
+          number = r .number;
+          run = r .run;
+          wake = r .wake;
+          send = now (send .exit);
+          out = now (run .exit);
+        }
+        ≡ sendAt (refusal (wakeTests kind out o)) (wakeStep kind k clock s) (wakeRun kind clock o) b out ⌝ }
 {
     if !is_kind(kind) {
         return answer::refuse(answer::NO_WORK);
@@ -108,10 +135,10 @@ pub fn wake(send: &mut [u8], kind: u64, id: &[u8], clock: u64, run: &mut [u8]) -
     if run.len() < room(kind) {
         return answer::refuse(answer::SHORT_OUTPUT);
     }
-    let at = store::find::find_held(send, id);
-    if send[at] == 0 {
+    let link = store::find::find_held(send, id);
+    if send[link] == 0 {
         return answer::refuse(answer::UNKNOWN_ID);
     }
-    let end = wake_record(send, kind, at, clock, run);
+    let end = wake_record(send, kind, link, clock, run);
     answer::sent(end as u64)
 }

@@ -2,3 +2,4 @@ pub mod Frame
 pub mod Outgoing
 pub mod Room
 pub mod LengthsLaws
+pub mod Named

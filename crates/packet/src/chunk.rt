@@ -60,7 +60,9 @@ impl MessageChunk {
     // A chunk packet, written at a.
     pub fn put(run: &mut [u8], a: usize, id: &[u8], index: u64, offset: u64, piece: &[u8])
         requires { ⌜ (length (now id) ≡ 8) × (a + 36 + length (now piece) ≤ length (now run)) ⌝ }
-        ensures { λ _. ⌜ now (run .exit) ≡ put (now (run .entry)) a (chunkPacket (now (id .entry)) index offset (now (piece .entry))) ⌝ }
+        ensures { λ _.
+            ⌜ now (run .exit)
+            ≡ put (now (run .entry)) a (chunkPacket (now (id .entry)) index offset (now (piece .entry))) ⌝ }
     {
         crate::header::put(run, a, id, crate::header::FLAG_CHUNK);
         octets::put64(run, a + Self::INDEX, index);

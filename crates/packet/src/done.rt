@@ -37,7 +37,9 @@ impl MessageDone {
     // A done packet, written at a.
     pub fn put(run: &mut [u8], a: usize, id: &[u8], count: u64, sum: &[u8])
         requires { ⌜ (length (now id) ≡ 8) × (length (now sum) ≡ 32) × (a + 52 ≤ length (now run)) ⌝ }
-        ensures { λ _. ⌜ now (run .exit) ≡ put (now (run .entry)) a (donePacket (now (id .entry)) count (now (sum .entry))) ⌝ }
+        ensures { λ _.
+            ⌜ now (run .exit)
+            ≡ put (now (run .entry)) a (donePacket (now (id .entry)) count (now (sum .entry))) ⌝ }
     {
         crate::header::put(run, a, id, crate::header::FLAG_DONE);
         octets::put64(run, a + Self::COUNT, count);

@@ -46,8 +46,12 @@ impl MessageInit {
 
     // An init packet, written at a.
     pub fn put(run: &mut [u8], a: usize, id: &[u8], reply: bool, size: u64, topic: &[u8])
-        requires { ⌜ (length (now id) ≡ 8) × (length (now topic) < 256) × (a + 21 + length (now topic) ≤ length (now run)) ⌝ }
-        ensures { λ _. ⌜ now (run .exit) ≡ put (now (run .entry)) a (initPacket (now (id .entry)) reply size (now (topic .entry))) ⌝ }
+        requires { ⌜ (length (now id) ≡ 8)
+            × (length (now topic) < 256)
+            × (a + 21 + length (now topic) ≤ length (now run)) ⌝ }
+        ensures { λ _.
+            ⌜ now (run .exit)
+            ≡ put (now (run .entry)) a (initPacket (now (id .entry)) reply size (now (topic .entry))) ⌝ }
     {
         let count = [topic.len() as u8];
         crate::header::put(run, a, id, Self::flags(reply));

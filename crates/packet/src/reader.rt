@@ -1,10 +1,11 @@
-// The reader of a frame: it holds the caller's bytes, and gives each field by one call of the function that reads it from a slice. Behind
-// it the same fields as functions of the frame: the calls use these.
+// The reader of a frame: it holds the caller's bytes, and gives each field by one call of the function that
+// reads it from a slice. Behind it the same fields as functions of the frame: the calls use these.
 
 ghost use mathlib.Core.Path.{_≡_};
 ghost use Prim.Native.Nat.{_≤_};
 ghost use lib.ListN.{length};
-ghost use Rattle.packet.specs.Frame.{idOf, flagsOf, initLength, initTopic, chunkIndex, chunkOffset, chunkSize, piece, doneCount, doneSum, largestPiece};
+ghost use Rattle.packet.specs.Frame.{idOf, flagsOf, initLength, initTopic, doneCount, doneSum};
+ghost use Rattle.packet.specs.Frame.{chunkIndex, chunkOffset, chunkSize, piece, largestPiece};
 
 pub struct Frame<'a> {
     pub bytes: &'a [u8],

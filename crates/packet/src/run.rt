@@ -1,9 +1,11 @@
-// A run: outgoing packets, each behind its byte count, its from-address and its to-address. Bytes past what is written stay.
+// A run: outgoing packets, each behind its byte count, its from-address and its to-address. Bytes past what
+// is written stay.
 use crate::chunk::MessageChunk;
 use crate::done::MessageDone;
 use crate::header::FLAGS;
 use crate::header::REST;
 use crate::init::MessageInit;
+use crate::label::Label;
 ghost use mathlib.Core.Path.{_≡_};
 ghost use mathlib.Core.List.{_++_};
 ghost use Prim.Native.Nat.{_+_, _<_, _≤_};
@@ -22,7 +24,9 @@ pub const PACKET: usize = TO + 16;
 // What stands before a packet of n bytes, written at a.
 fn put_front(run: &mut [u8], a: usize, from: &[u8], to: &[u8], n: usize)
     requires { ⌜ Room (now run) a (now from) (now to) n ⌝ }
-    ensures { λ _. ⌜ now (run .exit) ≡ put (now (run .entry)) a (be 2 n ++ now (from .entry) ++ now (to .entry)) ⌝ }
+    ensures { λ _.
+        ⌜ now (run .exit)
+        ≡ put (now (run .entry)) a (be 2 n ++ now (from .entry) ++ now (to .entry)) ⌝ }
 {
     octets::put16(run, a, n as u64);
     octets::copy_in(run, a + FROM, from);
@@ -30,22 +34,17 @@ fn put_front(run: &mut [u8], a: usize, from: &[u8], to: &[u8], n: usize)
 }
 
 // The entry of an init.
-pub fn put_init(
-    run: &mut [u8],
-    a: usize,
-    from: &[u8],
-    to: &[u8],
-    id: &[u8],
-    reply: bool,
-    size: u64,
-    topic: &[u8],
-)
-    requires { ⌜ Room (now run) a (now from) (now to) (21 + length (now topic)) ⌝ }
-    requires { ⌜ (length (now id) ≡ 8) × (length (now topic) < 256) ⌝ }
-    ensures { λ _. ⌜ now (run .exit) ≡ put (now (run .entry)) a (entry (now (from .entry)) (now (to .entry)) (initPacket (now (id .entry)) reply size (now (topic .entry)))) ⌝ }
+pub fn put_init(run: &mut [u8], a: usize, label: Label, topic: &[u8])
+    requires { ⌜ (length (now topic) < 256) × (a + 34 + (21 + length (now topic)) ≤ length (now run)) ⌝ }
+    ensures { λ _.
+        let packet = initPacket (label .id) (label .reply) (label .total) (now (topic .entry)) in
+        ⌜ now (run .exit) ≡ put (now (run .entry)) a (entry (label .source) (label .destination) packet) ⌝ }
 {
-    put_front(run, a, from, to, MessageInit::TOPIC + topic.len());
-    MessageInit::put(run, a + PACKET, id, reply, size, topic);
+    let id = label.id;
+    let from = label.source;
+    let to = label.destination;
+    put_front(run, a, &from, &to, MessageInit::TOPIC + topic.len());
+    MessageInit::put(run, a + PACKET, &id, label.reply, label.total, topic);
 }
 
 // The entry of a chunk.
@@ -61,7 +60,10 @@ pub fn put_chunk(
 )
     requires { ⌜ Room (now run) a (now from) (now to) (36 + length (now piece)) ⌝ }
     requires { ⌜ length (now id) ≡ 8 ⌝ }
-    ensures { λ _. ⌜ now (run .exit) ≡ put (now (run .entry)) a (entry (now (from .entry)) (now (to .entry)) (chunkPacket (now (id .entry)) index offset (now (piece .entry)))) ⌝ }
+    ensures { λ _.
+        ⌜ now (run .exit)
+        ≡ put (now (run .entry)) a
+        (entry (now (from .entry)) (now (to .entry)) (chunkPacket (now (id .entry)) index offset (now (piece .entry)))) ⌝ }
 {
     put_front(run, a, from, to, MessageChunk::PIECE + piece.len());
     MessageChunk::put(run, a + PACKET, id, index, offset, piece);
@@ -71,7 +73,10 @@ pub fn put_chunk(
 pub fn put_done(run: &mut [u8], a: usize, from: &[u8], to: &[u8], id: &[u8], count: u64, sum: &[u8])
     requires { ⌜ Room (now run) a (now from) (now to) 52 ⌝ }
     requires { ⌜ (length (now id) ≡ 8) × (length (now sum) ≡ 32) ⌝ }
-    ensures { λ _. ⌜ now (run .exit) ≡ put (now (run .entry)) a (entry (now (from .entry)) (now (to .entry)) (donePacket (now (id .entry)) count (now (sum .entry)))) ⌝ }
+    ensures { λ _.
+        ⌜ now (run .exit)
+        ≡ put (now (run .entry)) a
+        (entry (now (from .entry)) (now (to .entry)) (donePacket (now (id .entry)) count (now (sum .entry)))) ⌝ }
 {
     put_front(run, a, from, to, MessageDone::SIZE);
     MessageDone::put(run, a + PACKET, id, count, sum);
@@ -81,7 +86,10 @@ pub fn put_done(run: &mut [u8], a: usize, from: &[u8], to: &[u8], id: &[u8], cou
 pub fn put_header(run: &mut [u8], a: usize, from: &[u8], to: &[u8], id: &[u8], flags: u8)
     requires { ⌜ Room (now run) a (now from) (now to) 12 ⌝ }
     requires { ⌜ length (now id) ≡ 8 ⌝ }
-    ensures { λ _. ⌜ now (run .exit) ≡ put (now (run .entry)) a (entry (now (from .entry)) (now (to .entry)) (header (now (id .entry)) flags)) ⌝ }
+    ensures { λ _.
+        ⌜ now (run .exit)
+        ≡ put (now (run .entry)) a
+        (entry (now (from .entry)) (now (to .entry)) (header (now (id .entry)) flags)) ⌝ }
 {
     put_front(run, a, from, to, crate::header::SIZE);
     crate::header::put(run, a + PACKET, id, flags);
@@ -91,7 +99,10 @@ pub fn put_header(run: &mut [u8], a: usize, from: &[u8], to: &[u8], id: &[u8], f
 pub fn put_reply(run: &mut [u8], a: usize, from: &[u8], to: &[u8], frame: &[u8], n: usize)
     requires { ⌜ Room (now run) a (now from) (now to) n ⌝ }
     requires { ⌜ (9 ≤ n) × (n ≤ length (now frame)) ⌝ }
-    ensures { λ _. ⌜ now (run .exit) ≡ put (now (run .entry)) a (entry (now (from .entry)) (now (to .entry)) (replyPacket n (now (frame .entry)))) ⌝ }
+    ensures { λ _.
+        ⌜ now (run .exit)
+        ≡ put (now (run .entry)) a
+        (entry (now (from .entry)) (now (to .entry)) (replyPacket n (now (frame .entry)))) ⌝ }
 {
     put_front(run, a, from, to, n);
     let flags = [crate::header::flags(frame) | crate::header::FLAG_ACK];

@@ -44,13 +44,15 @@ module _ (role : ℕ) (b : List ℕ) where
 
   -- with as many cells as a store may have
   pub head-is : (cells ≡ 0 → ⊥) → cells ≤ mostCells
-      → ((((eqb (length b) (storeBytes cells) && isRole role) && eqb (getD b roleAt 0) role) && eqb (getD b formAt 0) form) && zeroFrom headBytes restAt b) ≡ headFits role b
+      → ((((eqb (length b) (storeBytes cells) && isRole role) && eqb (getD b roleAt 0) role) && eqb (getD b formAt 0) form)
+      && zeroFrom headBytes restAt b) ≡ headFits role b
   unfolding headFits decode
   head-is n h = rw (lt-ltb 0 cells (omega (arith, n)), le-leb cells mostCells h)
 
 -- a record whose length is in range
 pub record-is : (role kind : ℕ) (row : List ℕ) (n : ℕ) → n ≡ numAt numberWidth row totalAt → n ≤ longest
-    → (((recShape kind row && isMark (getD row replyAt 0)) && sendingFits role (sendingOf row)) && (leb (slotsOf n) (getD row slotsAt 0) && leb (getD row slotsAt 0) (mostSlots n)))
+    → (((recShape kind row && isMark (getD row replyAt 0)) && sendingFits role (sendingOf row))
+    && (leb (slotsOf n) (getD row slotsAt 0) && leb (getD row slotsAt 0) (mostSlots n)))
     ≡ recordFits role kind row
 unfolding recordFits
 record-is role kind row n e h = rw (← e, le-leb n longest h) (simp (and-assoc, and-true))

@@ -33,7 +33,7 @@ pub const BYTES: usize = 1380;
 
 pub const MOST: usize = 45;
 
-pub const LARGEST: usize = 1364;
+pub const LARGEST: usize = BYTES - Cell::PIECE;
 
 // One step more than there are cells: a walk along a chain of sound bytes has ended before.
 pub const STEPS: usize = MOST + 1;

@@ -43,23 +43,23 @@ pub fn is_role(role: u64) -> bool
 }
 
 // Whether the head is that of a store of the role, and as long as its cells ask.
-pub fn fits(s: &[u8], role: u64) -> bool
-    ensures { λ r. ⌜ r ≡ headFits role (now (s .entry)) ⌝ }
+pub fn fits(store: &[u8], role: u64) -> bool
+    ensures { λ r. ⌜ r ≡ headFits role (now (store .entry)) ⌝ }
 {
-    if s.len() < Head::BYTES {
+    if store.len() < Head::BYTES {
         return false;
     }
-    let cells = octets::small(s[Head::CELLS]);
+    let cells = octets::small(store[Head::CELLS]);
     if cells == 0 {
         return false;
     }
     if cells > crate::cell::MOST {
         return false;
     }
-    let rest = octets::zero_part(s, Head::REST, Head::BYTES - Head::REST);
-    (s.len() == crate::cell::FIRST + crate::cell::BYTES * cells)
+    let rest = octets::zero_part(store, Head::REST, Head::BYTES - Head::REST);
+    (store.len() == crate::cell::FIRST + crate::cell::BYTES * cells)
         & is_role(role)
-        & (octets::wide(s[Head::ROLE]) == role)
-        & (s[Head::FORM] == FORM)
+        & (octets::wide(store[Head::ROLE]) == role)
+        & (store[Head::FORM] == FORM)
         & rest
 }

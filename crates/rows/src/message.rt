@@ -4,7 +4,7 @@ ghost use mathlib.Core.Path.{_≡_};
 ghost use mathlib.Core.Bool.{_&&_};
 ghost use Prim.Native.Nat.{_≤_, _<_};
 ghost use lib.Dec.{leb};
-ghost use Rattle.machine.specs.Limits.{longest, slotsOf, topOf, mostSlots};
+ghost use Rattle.machine.specs.Limits.{longest, leastPiece, ceil, slotsOf, topOf, mostSlots};
 
 // Length at most; pieces are cut by CUT, and a piece below LEAST is short.
 pub const LONGEST: u64 = 32500;
@@ -12,6 +12,11 @@ pub const LONGEST: u64 = 32500;
 pub const CUT: u64 = 1300;
 
 pub const LEAST: u64 = 250;
+
+// The first two as the bytes of a slice.
+pub const LONGEST_BYTES: usize = LONGEST as usize;
+
+pub const CUT_BYTES: usize = CUT as usize;
 
 // How many slots a length asks for.
 pub fn slots(length: u64) -> u64
@@ -24,7 +29,7 @@ pub fn slots(length: u64) -> u64
 // The highest index of a piece.
 pub fn top(length: u64) -> u64
     requires { ⌜ length ≤ longest ⌝ }
-    ensures { λ r. ⌜ (r ≡ topOf length) × (r < 130) ⌝ }
+    ensures { λ r. ⌜ (r ≡ topOf length) × (r < ceil longest leastPiece) ⌝ }
 {
     if length == 0 {
         return 0;

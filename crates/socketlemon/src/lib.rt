@@ -1,5 +1,5 @@
-// The calls by the C convention, for a host in any language; include/socketlemon.h declares them. A slice is a pointer and a length. Each export is one
-// call and carries its whole contract.
+// The calls by the C convention, for a host in any language; include/socketlemon.h declares them. A slice is
+// a pointer and a length. Each export is one call and carries its whole contract.
 
 use answer::Answer;
 ghost use mathlib.Core.Path.{_≡_};
@@ -14,7 +14,9 @@ ghost use Rattle.machine.specs.Take.{takeOf};
 // Makes the store fresh, in a role: 1 to receive, 2 to send.
 #[no_mangle]
 pub extern "C" fn socketlemon_setup(store: &mut [u8], role: u64) -> Answer
-    ensures { λ r. ⌜ record { number = r .number; run = r .run; wake = r .wake; store = now (store .exit) } ≡ setupOf (now (store .entry)) role ⌝ }
+    ensures { λ r.
+        ⌜ record { number = r .number; run = r .run; wake = r .wake; store = now (store .exit) }
+        ≡ setupOf (now (store .entry)) role ⌝ }
 {
     message::setup(store, role)
 }
@@ -31,7 +33,17 @@ pub extern "C" fn socketlemon_packet(
     known: u64,
     run: &mut [u8],
 ) -> Answer
-    ensures { λ r. ⌜ record { number = r .number; run = r .run; wake = r .wake; recv = now (recv .exit); send = now (send .exit); out = now (run .exit) } ≡ packetOf (now (recv .entry)) (now (send .entry)) (now (frame .entry)) (now (from .entry)) (now (to .entry)) (now (rules .entry)) known (now (run .entry)) ⌝ }
+    ensures { λ r.
+        ⌜ record {
+          number = r .number;
+          run = r .run;
+          wake = r .wake;
+          recv = now (recv .exit);
+          send = now (send .exit);
+          out = now (run .exit);
+        }
+        ≡ packetOf (now (recv .entry)) (now (send .entry)) (now (frame .entry)) (now (from .entry))
+        (now (to .entry)) (now (rules .entry)) known (now (run .entry)) ⌝ }
 {
     message::packet(recv, send, frame, from, to, rules, known, run)
 }
@@ -50,7 +62,16 @@ pub extern "C" fn socketlemon_push(
     try_ms: u64,
     run: &mut [u8],
 ) -> Answer
-    ensures { λ r. ⌜ record { number = r .number; run = r .run; wake = r .wake; send = now (send .exit); out = now (run .exit) } ≡ pushOf (now (send .entry)) (now (id .entry)) reply (now (from .entry)) (now (to .entry)) (now (topic .entry)) (now (bytes .entry)) created «try_ms» (now (run .entry)) ⌝ }
+    ensures { λ r.
+        ⌜ record {
+          number = r .number;
+          run = r .run;
+          wake = r .wake;
+          send = now (send .exit);
+          out = now (run .exit);
+        }
+        ≡ pushOf (now (send .entry)) (now (id .entry)) reply (now (from .entry)) (now (to .entry))
+        (now (topic .entry)) (now (bytes .entry)) created «try_ms» (now (run .entry)) ⌝ }
 {
     message::push(
         send,
@@ -75,7 +96,15 @@ pub extern "C" fn socketlemon_wake(
     clock: u64,
     run: &mut [u8],
 ) -> Answer
-    ensures { λ r. ⌜ record { number = r .number; run = r .run; wake = r .wake; send = now (send .exit); out = now (run .exit) } ≡ wakeOf (now (send .entry)) kind (now (id .entry)) clock (now (run .entry)) ⌝ }
+    ensures { λ r.
+        ⌜ record {
+          number = r .number;
+          run = r .run;
+          wake = r .wake;
+          send = now (send .exit);
+          out = now (run .exit);
+        }
+        ≡ wakeOf (now (send .entry)) kind (now (id .entry)) clock (now (run .entry)) ⌝ }
 {
     message::wake(send, kind, id, clock, run)
 }
@@ -83,7 +112,9 @@ pub extern "C" fn socketlemon_wake(
 // The report on a message, into `out`.
 #[no_mangle]
 pub extern "C" fn socketlemon_report(send: &[u8], id: &[u8; 8], out: &mut [u8]) -> Answer
-    ensures { λ r. ⌜ record { number = r .number; run = r .run; wake = r .wake; out = now (out .exit) } ≡ reportOf (now (send .entry)) (now (id .entry)) (now (out .entry)) ⌝ }
+    ensures { λ r.
+        ⌜ record { number = r .number; run = r .run; wake = r .wake; out = now (out .exit) }
+        ≡ reportOf (now (send .entry)) (now (id .entry)) (now (out .entry)) ⌝ }
 {
     message::report(send, id, out)
 }
@@ -91,7 +122,16 @@ pub extern "C" fn socketlemon_report(send: &[u8], id: &[u8; 8], out: &mut [u8]) 
 // The oldest whole message: its record and its data go into `taken`, its read packet into `run`.
 #[no_mangle]
 pub extern "C" fn socketlemon_take(recv: &mut [u8], taken: &mut [u8], run: &mut [u8]) -> Answer
-    ensures { λ r. ⌜ record { number = r .number; run = r .run; wake = r .wake; recv = now (recv .exit); taken = now (taken .exit); out = now (run .exit) } ≡ takeOf (now (recv .entry)) (now (taken .entry)) (now (run .entry)) ⌝ }
+    ensures { λ r.
+        ⌜ record {
+          number = r .number;
+          run = r .run;
+          wake = r .wake;
+          recv = now (recv .exit);
+          taken = now (taken .exit);
+          out = now (run .exit);
+        }
+        ≡ takeOf (now (recv .entry)) (now (taken .entry)) (now (run .entry)) ⌝ }
 {
     message::take(recv, taken, run)
 }
@@ -99,7 +139,9 @@ pub extern "C" fn socketlemon_take(recv: &mut [u8], taken: &mut [u8], run: &mut 
 // The address of a public key of 32 bytes, into `out`.
 #[no_mangle]
 pub extern "C" fn socketlemon_address(key: &[u8], out: &mut [u8]) -> Answer
-    ensures { λ r. ⌜ (record { number = r .number; out = now (out .exit) } ≡ addressOf (now (key .entry)) (now (out .entry))) × (r .run ≡ 0) × (r .wake ≡ 0) ⌝ }
+    ensures { λ r.
+        ⌜ (record { number = r .number; out = now (out .exit) } ≡ addressOf (now (key .entry)) (now (out .entry)))
+        × (r .run ≡ 0) × (r .wake ≡ 0) ⌝ }
 {
     let number = address::address(key, out);
     answer::refuse(number)

@@ -1,5 +1,5 @@
 -- The turns of the loops over the pieces of a record, over the pieces of several records, and over the keys of records. Assumes nothing.
-use Prim.Native.Nat.{ℕ, suc, _+_, _-_, _≤_, _<_}
+use Prim.Native.Nat.{ℕ, suc, _+_, _*_, _-_, _≤_, _<_}
 use native.Mathlib.Omega.{arith}
 use native.Mathlib.Nat.{zero-add, add-zero}
 use native.Mathlib.Numerals.{add-one}
@@ -12,11 +12,12 @@ use borrow.Author.Tests.{le-leb, lt-leb, lt-ltb, le-ltb, leb-true}
 use Rattle.octets.specs.BoolsLaws.{split}
 use Rattle.octets.specs.Lists.{all}
 use Rattle.octets.specs.PartsLaws.{length-part, part-of, part-part}
-use Rattle.machine.specs.Limits.{recBytes, cellBytes, cutBy}
+use Rattle.machine.specs.Limits.{recBytes, recCount, cellBytes, mostCells, cutBy}
 use Rattle.machine.specs.Values.{Cell, sameKey}
 use Rattle.machine.specs.Counting.{inside}
 use Rattle.machine.specs.Chains.{link, walk, nextAt}
-use Rattle.machine.specs.Layout.{idAt, idWidth, indexAt, sizeAt, bytesAt, sizeWidth, recOff, cellOff, firstCellAt, slotsAt, totalAt, numberWidth, recAt, cellAt, numAt, cellOf, readCell, readCells, cellChain}
+use Rattle.machine.specs.Layout.{idAt, idWidth, indexAt, sizeAt, bytesAt, sizeWidth, recOff, cellOff, firstCellAt, slotsAt}
+use Rattle.machine.specs.Layout.{totalAt, numberWidth, recAt, cellAt, numAt, cellOf, readCell, readCells, cellChain}
 use Rattle.machine.specs.Sound.{rising, sizes, isCut}
 use Rattle.octets.specs.Octets.{part}
 use Rattle.packet.specs.Frame.{largestPiece}
@@ -26,8 +27,9 @@ use Rattle.laws.specs.Marks.{Walked, scan, pick, scan-append}
 use Rattle.rows.specs.declared.Holds.the-variants.{Piece}
 use Rattle.rows.specs.Asked.{pieceFits}
 use Rattle.soundness.specs.declared.chain.Table.{Table}
-use Rattle.soundness.specs.Walked.{cellTable, Room, chainMarked, piecesAt, piecesOf, readable, complete, nextCut, piecesFit, recordPieces, keyAt, unlike, recordsFit}
-use Rattle.soundness.proofs.Walking.{piece-chain, walk-end, walk-out, walk-on, walk-all}
+use Rattle.soundness.specs.Walked.{cellTable, Room, chainMarked, piecesAt, piecesOf, piecesMarked, readable, complete}
+use Rattle.soundness.specs.Walked.{nextCut, piecesFit, recordPieces, keyAt, unlike, recordsFit}
+use Rattle.soundness.proofs.Walking.{piece-chain, walk-end, walk-out, walk-on, walk-all, walk-in}
 
 -- ---- records, as the code reads them
 
@@ -49,72 +51,96 @@ module _ (b : List ℕ) (x first : ℕ) (row : List ℕ) (e : row ≡ recAt b x)
       → w ≡ piecesFit kind slots total (readCells b first) → w ≡ recordPieces kind b x
   unfolding recordPieces
   record-asks kind slots total w s l q =
-      q ∙ (λ i. piecesFit kind (s i) (l i) (readCells b (f i))) ∙ ap (λ (r : List ℕ). piecesFit kind (getD r slotsAt 0) (numAt numberWidth r totalAt) (readCells b (getD r firstCellAt 0))) e
+      q ∙ (λ i. piecesFit kind (s i) (l i) (readCells b (f i)))
+      ∙ ap (λ (r : List ℕ). piecesFit kind (getD r slotsAt 0) (numAt numberWidth r totalAt) (readCells b (getD r firstCellAt 0))) e
 
--- ---- the turns of a loop along a chain of records: f of `bound` steps are made, the walk stands at x and goes on to y
+-- ---- the turns of a loop along a chain of records
 
-pub scan-none : (test : ℕ → Bool) (n : ℕ) (m : List ℕ) → scan test n [] m ≡ record { ok = true; marks = m }
+-- what is left of the chain at x after n steps
+abbrev pub onward : List ℕ → ℕ → ℕ → List ℕ
+onward b n x = walk (link (recAt b)) (suc recCount - n) x
+
+-- at x after n steps, with all records ahead inside
+pub record Way (b : List ℕ) (x n : ℕ) : Type 0 where
+  pub turns : n ≤ suc recCount
+  pub within : all (inside recCount) (onward b n x) ≡ true
+
+-- nothing is asked where nothing is left
+pub pieces-none : (cells role : ℕ) (b m : List ℕ) {l : List ℕ} → l ≡ [] → piecesMarked cells role b l m ≡ record { ok = true; marks = m }
 unfolding scan
-scan-none test n m = refl
+pieces-none cells role b m e = ap (λ (ps : List ℕ). piecesMarked cells role b ps m) e
+
+pub records-none : (kind : ℕ) (b m : List ℕ) {l : List ℕ} → l ≡ [] → recordsFit kind b l m ≡ true
+unfolding recordsFit
+records-none kind b m e = ap (λ (ps : List ℕ). recordsFit kind b ps m) e
 
 -- the pieces of the record at x, scanned as the code does it
-pub scanned : (t : Table) (cells role : ℕ) (b : List ℕ) (x first : ℕ) (m : List ℕ) (w : Walked) → t ≡ cellTable cells → first ≡ getD (recAt b x) firstCellAt 0
-    → w ≡ chainMarked t role Piece b first m → w ≡ scan (λ p. pieceFits role (cellAt b p)) cells (piecesAt b x) m
-scanned t cells role b x first m w e f q = piece-chain t cells role b first (getD (recAt b x) firstCellAt 0) m w e f q
+pub scanned : {t : Table} (cells role : ℕ) (b : List ℕ) (x : ℕ) {first : ℕ} (m : List ℕ) {w : Walked} → t ≡ cellTable cells
+    → first ≡ getD (recAt b x) firstCellAt 0 → w ≡ chainMarked t role Piece b first m → w ≡ scan (λ p. pieceFits role (cellAt b p)) cells (piecesAt b x) m
+scanned cells role b x m e f q = piece-chain _ cells role b _ (getD (recAt b x) firstCellAt 0) m _ e f q
 
-module _ (b : List ℕ) (bound f x : ℕ) (h : f < bound) (s : x ≡ 0 → ⊥) where
-  abbrev left : List ℕ
-  left = walk (link (recAt b)) (bound - f) x
+module _ {b : List ℕ} {x n : ℕ} (w : Way b x n) where
+  pub way-end : x ≡ 0 → onward b n x ≡ []
+  way-end e = walk-end (link (recAt b)) (suc recCount - n) x e
 
-  abbrev after : ℕ → List ℕ
-  after y = walk (link (recAt b)) (bound - (f + 1)) y
+  pub way-out : suc recCount ≤ n → onward b n x ≡ []
+  way-out h = walk-out (link (recAt b)) (suc recCount) n x h
 
-  goes : (y : ℕ) → link (recAt b) x ≡ y → left ≡ x ∷ after y
-  goes y e = walk-on (link (recAt b)) bound f x y h s e
+  -- a record is there
+  module _ (h : n < suc recCount) (s : x ≡ 0 → ⊥) where
+    pub way-at : (0 < x) × (x ≤ recCount)
+    way-at = walk-in (link (recAt b)) recCount (suc recCount) n x h s (w .within)
 
-  -- its key is that of the record at p, or not
-  pub unlike-bad : (p : ℕ) → sameKey (keyAt b p) (keyAt b x) ≡ true → all (unlike b p) left ≡ false
-  unlike-bad p e = ap (all (unlike b p)) (goes (link (recAt b) x) refl) ∙ rw e
+    goes : {y : ℕ} → y ≡ link (recAt b) x → onward b n x ≡ x ∷ onward b (n + 1) y
+    goes {y} e = walk-on (link (recAt b)) (suc recCount) n x y h s (sym e)
 
-  pub unlike-more : (p y : ℕ) → link (recAt b) x ≡ y → sameKey (keyAt b p) (keyAt b x) ≡ false → all (unlike b p) left ≡ all (unlike b p) (after y)
-  unlike-more p y q e = ap (all (unlike b p)) (goes y q) ∙ rw e
+    pub way-on : {y : ℕ} → y ≡ link (recAt b) x → Way b y (n + 1)
+    way-on {y} e =
+        record { turns = omega arith; within = walk-all (link (recAt b)) (inside recCount) (suc recCount) n x y h s (sym e) (w .within) .1 }
 
-  -- its pieces are scanned, with the answer `fine` and the marks m′
-  module _ (test : ℕ → Bool) (n : ℕ) (m m′ : List ℕ) (fine : Bool) (e : record { ok = fine; marks = m′ } ≡ scan test n (piecesAt b x) m) where
-    one-more : (y : ℕ) → link (recAt b) x ≡ y → scan test n (piecesOf b left) m ≡ pick fine (scan test n (piecesOf b (after y)) m′) (record { ok = false; marks = m′ })
-    one-more y q =
-        ap (λ (ps : List ℕ). scan test n (piecesOf b ps) m) (goes y q)
-        ∙ scan-append test n (piecesAt b x) (piecesOf b (after y)) m
-        ∙ (λ i. pick (sym e i .ok) (scan test n (piecesOf b (after y)) (sym e i .marks)) (record { ok = false; marks = sym e i .marks }))
+    -- its key is that of the record at p, or not
+    pub unlike-bad : (p : ℕ) → sameKey (keyAt b p) (keyAt b x) ≡ true → all (unlike b p) (onward b n x) ≡ false
+    unlike-bad p e = ap (all (unlike b p)) (goes refl) ∙ rw e
 
-    pub pieces-bad : fine ≡ false → scan test n (piecesOf b left) m ≡ record { ok = false; marks = m′ }
-    pieces-bad q = one-more (link (recAt b) x) refl ∙ rw q
+    pub unlike-more : (p : ℕ) {y : ℕ} → y ≡ link (recAt b) x → sameKey (keyAt b p) (keyAt b x) ≡ false
+        → all (unlike b p) (onward b n x) ≡ all (unlike b p) (onward b (n + 1) y)
+    unlike-more p q e = ap (all (unlike b p)) (goes q) ∙ rw e
 
-    pub pieces-more : (y : ℕ) → link (recAt b) x ≡ y → fine ≡ true → scan test n (piecesOf b left) m ≡ scan test n (piecesOf b (after y)) m′
-    pieces-more y r q = one-more y r ∙ rw q
+    -- its pieces are scanned, with the answer `fine` and the marks m′
+    module _ (test : ℕ → Bool) (k : ℕ) (m : List ℕ) {m′ : List ℕ} {fine : Bool} (e : record { ok = fine; marks = m′ } ≡ scan test k (piecesAt b x) m) where
+      one-more : (y : ℕ) → y ≡ link (recAt b) x
+          → scan test k (piecesOf b (onward b n x)) m ≡ pick fine (scan test k (piecesOf b (onward b (n + 1) y)) m′) (record { ok = false; marks = m′ })
+      one-more y q =
+          ap (λ (ps : List ℕ). scan test k (piecesOf b ps) m) (goes q)
+          ∙ scan-append test k (piecesAt b x) (piecesOf b (onward b (n + 1) y)) m
+          ∙ (λ i. pick (sym e i .ok) (scan test k (piecesOf b (onward b (n + 1) y)) (sym e i .marks)) (record { ok = false; marks = sym e i .marks }))
 
-  -- it has its pieces and a key of its own, or not
-  module _ (kind : ℕ) (m : List ℕ) (y : ℕ) (e : link (recAt b) x ≡ y) (own later others : Bool) (p : own ≡ recordPieces kind b x) (q : later ≡ all (unlike b x) (after y))
-      (r : others ≡ all (unlike b x) m) where
-    one-record : recordsFit kind b left m ≡ ((own && (later && others)) && recordsFit kind b (after y) m)
-    unfolding recordsFit
-    one-record = ap (λ (ps : List ℕ). recordsFit kind b ps m) (goes y e) ∙ rw (p, q, r)
+      pub pieces-bad : fine ≡ false → scan test k (piecesOf b (onward b n x)) m ≡ record { ok = false; marks = m′ }
+      pieces-bad q = one-more (link (recAt b) x) refl ∙ rw q
 
-    pub record-bad : (own && (later && others)) ≡ false → recordsFit kind b left m ≡ false
-    record-bad z = one-record ∙ rw z
+      pub pieces-more : {y : ℕ} → y ≡ link (recAt b) x → fine ≡ true
+          → scan test k (piecesOf b (onward b n x)) m ≡ scan test k (piecesOf b (onward b (n + 1) y)) m′
+      pieces-more {y} r q = one-more y r ∙ rw q
 
-    pub record-more : (own && (later && others)) ≡ true → recordsFit kind b left m ≡ recordsFit kind b (after y) m
-    record-more z = one-record ∙ rw z
+    -- it has its pieces and a key of its own, or not
+    module _ (kind : ℕ) (m : List ℕ) {y : ℕ} (e : y ≡ link (recAt b) x) {own later others : Bool} (p : own ≡ recordPieces kind b x)
+        (q : later ≡ all (unlike b x) (onward b (n + 1) y)) (r : others ≡ all (unlike b x) m) where
+      one-record : recordsFit kind b (onward b n x) m ≡ ((own && (later && others)) && recordsFit kind b (onward b (n + 1) y) m)
+      unfolding recordsFit
+      one-record = ap (λ (ps : List ℕ). recordsFit kind b ps m) (goes e) ∙ rw (p, q, r)
 
-  -- the pieces of the records on the way can be read
-  pub pieces-in : (cells y : ℕ) → link (recAt b) x ≡ y → all (readable cells b) (piecesOf b left) ≡ true
-      → (all (readable cells b) (piecesAt b x) ≡ true) × (all (readable cells b) (piecesOf b (after y)) ≡ true)
-  pieces-in cells y e a =
-      all-parts (readable cells b) (piecesAt b x) (piecesOf b (after y)) (sym (ap (λ (ps : List ℕ). all (readable cells b) (piecesOf b ps)) (goes y e)) ∙ a)
+      pub record-bad : (own && (later && others)) ≡ false → recordsFit kind b (onward b n x) m ≡ false
+      record-bad z = one-record ∙ rw z
 
-pub record-none : (kind : ℕ) (b m : List ℕ) → recordsFit kind b [] m ≡ true
-unfolding recordsFit
-record-none kind b m = refl
+      pub record-more : (own && (later && others)) ≡ true → recordsFit kind b (onward b n x) m ≡ recordsFit kind b (onward b (n + 1) y) m
+      record-more z = one-record ∙ rw z
+
+    -- the pieces of the records on the way can be read
+    pub pieces-in : (cells : ℕ) {y : ℕ} → y ≡ link (recAt b) x → all (readable cells b) (piecesOf b (onward b n x)) ≡ true
+        → (all (readable cells b) (piecesAt b x) ≡ true) × (all (readable cells b) (piecesOf b (onward b (n + 1) y)) ≡ true)
+    pieces-in cells {y} e a =
+        all-parts (readable cells b) (piecesAt b x) (piecesOf b (onward b (n + 1) y))
+        (sym (ap (λ (ps : List ℕ). all (readable cells b) (piecesOf b ps)) (goes e)) ∙ a)
 
 -- ---- the pieces of a record
 
@@ -148,69 +174,87 @@ module _ (kind slots total : ℕ) where
           let count : n + suc (length cs) ≡ n + 1 + length cs = omega arith in
           let sums : sum + (size + sizes cs) ≡ sum + size + sizes cs = omega arith in
           rw (e, le-leb low index a, lt-ltb index slots h, l, p, q)
-          (λ i. rising (sym (add-one index) i) slots cs && complete kind slots total (count i) (sums i) (sym (and-assoc cut (nextCut left size) (isCut (left - cutBy) cs)) i))
+          (λ i. rising (sym (add-one index) i) slots cs && complete kind slots total (count i) (sums i)
+          (sym (and-assoc cut (nextCut left size) (isCut (left - cutBy) cs)) i))
 
--- a cell on the way, as the code reads it, and the turns of the loop
-module _ (cells : ℕ) (b : List ℕ) (bound f x : ℕ) (h : f < bound) (s : x ≡ 0 → ⊥) (a : all (readable cells b) (walk (link (cellAt b)) (bound - f) x) ≡ true) where
-  here : (inside cells x ≡ true) × (leb (numAt sizeWidth (cellAt b x) sizeAt) largestPiece ≡ true)
-  here = split (inside cells x) (leb (numAt sizeWidth (cellAt b x) sizeAt) largestPiece) (walk-all (link (cellAt b)) (readable cells b) bound f x _ h s refl a .0)
+-- what is left of the chain at x after n pieces
+abbrev pub ahead : List ℕ → ℕ → ℕ → List ℕ
+ahead b n x = walk (link (cellAt b)) (suc mostCells - n) x
 
-  pub cell-in : (0 < x) × (x ≤ cells)
-  cell-in = inside-is cells x (here .0)
+-- at x after n pieces: the cells ahead can be read, and what is asked of them is what is asked of all
+pub record Turn (cells : ℕ) (b : List ℕ) (kind slots total first x n low sum left : ℕ) (cut : Bool) : Type 0 where
+  pub turns : n ≤ suc mostCells
+  pub small : sum ≤ 65536 * n
+  pub byte : low ≤ 256
+  pub reads : all (readable cells b) (ahead b n x) ≡ true
+  pub gives : piecesFit kind slots total (readCells b first) ≡ restFits kind slots total low n sum left cut (map (readCell b) (ahead b n x))
 
-  module _ (room : Room cells b) (row : List ℕ) (e : row ≡ cellAt b x) where
-    long : length row ≡ cellBytes
-    long = ap length e ∙ length-part b (cellOff x) cellBytes (let w = cell-in in omega (arith, room .long))
+module _ {cells : ℕ} {b : List ℕ} {kind slots total first x n low sum left : ℕ} {cut : Bool}
+    (t : Turn cells b kind slots total first x n low sum left cut) where
+  abbrev asked : Bool
+  asked = piecesFit kind slots total (readCells b first)
 
-    pub cell-byte : (j : ℕ) → j < cellBytes → j < length row
-    cell-byte j q = omega (arith, long)
+  abbrev fits : List ℕ → Bool
+  fits ps = restFits kind slots total low n sum left cut (map (readCell b) ps)
 
-    pub cell-bytes : (o n : ℕ) → o + n ≤ cellBytes → o + n ≤ length row
-    cell-bytes o n q = omega (arith, long)
+  -- nothing is left
+  ends : ahead b n x ≡ [] → complete kind slots total n sum (cut && eqb left 0) ≡ asked
+  ends e = sym (t .gives ∙ ap fits e ∙ rest-none kind slots total low n sum left cut)
 
-    pub cell-next : (next : ℕ) → next ≡ getD row nextAt 0 → link (cellAt b) x ≡ next
-    cell-next next q = ap (λ (l : List ℕ). getD l nextAt 0) (sym e) ∙ sym q
+  pub fit-end : x ≡ 0 → complete kind slots total n sum (cut && eqb left 0) ≡ asked
+  fit-end e = ends (walk-end (link (cellAt b)) (suc mostCells - n) x e)
 
-    module _ (kind slots total low n sum left : ℕ) (cut : Bool) (index : ℕ) (j : index ≡ getD row indexAt 0) where
-      abbrev fits : List ℕ → Bool
-      fits ps = restFits kind slots total low n sum left cut (map (readCell b) ps)
+  pub fit-out : suc mostCells ≤ n → complete kind slots total n sum (cut && eqb left 0) ≡ asked
+  fit-out h = ends (walk-out (link (cellAt b)) (suc mostCells) n x h)
 
-      goes-on : (y : ℕ) → link (cellAt b) x ≡ y → fits (walk (link (cellAt b)) (bound - f) x) ≡ fits (x ∷ walk (link (cellAt b)) (bound - (f + 1)) y)
-      goes-on y q = ap fits (walk-on (link (cellAt b)) bound f x y h s q)
+  -- a cell is there
+  module _ (h : n < suc mostCells) (s : x ≡ 0 → ⊥) where
+    here : (inside cells x ≡ true) × (leb (numAt sizeWidth (cellAt b x) sizeAt) largestPiece ≡ true)
+    here =
+        split (inside cells x) (leb (numAt sizeWidth (cellAt b x) sizeAt) largestPiece)
+        (walk-all (link (cellAt b)) (readable cells b) (suc mostCells) n x _ h s refl (t .reads) .0)
 
-      index-is : readCell b x .index ≡ index
-      unfolding cellOf
-      index-is = ap (λ (l : List ℕ). getD l indexAt 0) (sym e) ∙ sym j
+    pub cell-in : (0 < x) × (x ≤ cells)
+    cell-in = inside-is cells x (here .0)
 
-      pub fit-low : index < low → fits (walk (link (cellAt b)) (bound - f) x) ≡ false
-      fit-low q = goes-on (link (cellAt b) x) refl ∙ rest-low kind slots total low n sum left cut (readCell b x) _ index index-is q
+    module _ (room : Room cells b) {row : List ℕ} (e : row ≡ cellAt b x) where
+      pub cell-long : length row ≡ cellBytes
+      cell-long = ap length e ∙ length-part b (cellOff x) cellBytes (let w = cell-in in omega (arith, room .long))
 
-      pub fit-high : slots ≤ index → fits (walk (link (cellAt b)) (bound - f) x) ≡ false
-      fit-high q = goes-on (link (cellAt b) x) refl ∙ rest-high kind slots total low n sum left cut (readCell b x) _ index index-is q
+      -- its index is read
+      module _ {index : ℕ} (j : index ≡ getD row indexAt 0) where
+        goes-on : (y : ℕ) → link (cellAt b) x ≡ y → fits (ahead b n x) ≡ fits (x ∷ ahead b (n + 1) y)
+        goes-on y q = ap fits (walk-on (link (cellAt b)) (suc mostCells) n x y h s q)
 
-      module _ (size : ℕ) (z : size ≡ numAt sizeWidth row sizeAt) where
-        size-is : length (readCell b x .bytes) ≡ size
+        index-is : readCell b x .index ≡ index
         unfolding cellOf
-        size-is =
-            length-part (cellAt b x) bytesAt (numAt sizeWidth (cellAt b x) sizeAt)
-            (omega (arith, ap length (sym e) ∙ long, leb-true (numAt sizeWidth (cellAt b x) sizeAt) largestPiece (here .1)))
-            ∙ ap (λ (l : List ℕ). numAt sizeWidth l sizeAt) (sym e) ∙ sym z
+        index-is = ap (λ (l : List ℕ). getD l indexAt 0) (sym e) ∙ sym j
 
-        pub fit-more : (y : ℕ) → link (cellAt b) x ≡ y → low ≤ index → index < slots → (next : Bool) (rest : ℕ) → next ≡ nextCut left size → rest ≡ left - cutBy
-            → fits (walk (link (cellAt b)) (bound - f) x)
-            ≡ restFits kind slots total (index + 1) (n + 1) (sum + size) rest (cut && next) (map (readCell b) (walk (link (cellAt b)) (bound - (f + 1)) y))
-        fit-more y q o u next rest p r =
-            goes-on y q ∙ rest-more kind slots total low n sum left cut (readCell b x) _ index index-is size next rest o u size-is p r
+        pub fit-low : index < low → false ≡ asked
+        fit-low q = sym (t .gives ∙ goes-on _ refl ∙ rest-low kind slots total low n sum left cut (readCell b x) _ index index-is q)
 
--- the loop's end
-module _ (b : List ℕ) (kind slots total low n sum left : ℕ) (cut : Bool) where
-  pub fit-end : (k x : ℕ) → x ≡ 0 → restFits kind slots total low n sum left cut (map (readCell b) (walk (link (cellAt b)) k x)) ≡ complete kind slots total n sum (cut && eqb left 0)
-  fit-end k x e =
-      ap (λ (ps : List ℕ). restFits kind slots total low n sum left cut (map (readCell b) ps)) (walk-end (link (cellAt b)) k x e)
-      ∙ rest-none kind slots total low n sum left cut
+        pub fit-high : slots ≤ index → false ≡ asked
+        fit-high q = sym (t .gives ∙ goes-on _ refl ∙ rest-high kind slots total low n sum left cut (readCell b x) _ index index-is q)
 
-  pub fit-out : (bound f x : ℕ) → bound ≤ f
-      → restFits kind slots total low n sum left cut (map (readCell b) (walk (link (cellAt b)) (bound - f) x)) ≡ complete kind slots total n sum (cut && eqb left 0)
-  fit-out bound f x h =
-      ap (λ (ps : List ℕ). restFits kind slots total low n sum left cut (map (readCell b) ps)) (walk-out (link (cellAt b)) bound f x h)
-      ∙ rest-none kind slots total low n sum left cut
+        -- and its size
+        module _ {size : ℕ} (z : size ≡ numAt sizeWidth row sizeAt) where
+          size-is : length (readCell b x .bytes) ≡ size
+          unfolding cellOf
+          size-is =
+              length-part (cellAt b x) bytesAt (numAt sizeWidth (cellAt b x) sizeAt)
+              (omega (arith, ap length (sym e) ∙ cell-long, leb-true (numAt sizeWidth (cellAt b x) sizeAt) largestPiece (here .1)))
+              ∙ ap (λ (l : List ℕ). numAt sizeWidth l sizeAt) (sym e) ∙ sym z
+
+          pub fit-more : {y : ℕ} → y ≡ getD row nextAt 0 → low ≤ index → index < slots → index < 256 → size < 65536
+              → {next : Bool} {rest : ℕ} → next ≡ nextCut left size → rest ≡ left - cutBy
+              → Turn cells b kind slots total first y (n + 1) (index + 1) (sum + size) rest (cut && next)
+          fit-more {y} q o u byte small {next} {rest} p r =
+              let leads : link (cellAt b) x ≡ y = ap (λ (l : List ℕ). getD l nextAt 0) (sym e) ∙ sym q in
+              record {
+                turns = omega arith;
+                small = omega (arith, t .small);
+                byte = omega arith;
+                reads = walk-all (link (cellAt b)) (readable cells b) (suc mostCells) n x y h s leads (t .reads) .1;
+                gives = t .gives ∙ goes-on y leads
+                    ∙ rest-more kind slots total low n sum left cut (readCell b x) _ index index-is size next rest o u size-is p r;
+              }

@@ -69,13 +69,16 @@ module _ (size last : ℕ) (p : 1 ≤ size) where
       omega (arith, l, ap (λ (k : ℕ). a + size * k) e)
 
   -- one row more
-  pub rows-more : (b m l : List ℕ) (a n next : ℕ) → next ≡ freeLink last (n + 1) → m ≡ put b a (freeTable size last n) → l ≡ put m (a + size * n) (freeRow size next 0)
+  pub rows-more : (b m l : List ℕ) (a n next : ℕ) → next ≡ freeLink last (n + 1)
+      → m ≡ put b a (freeTable size last n) → l ≡ put m (a + size * n) (freeRow size next 0)
       → a + size * n ≤ length b
       → l ≡ put b a (freeTable size last (n + 1))
   rows-more b m l a n next q e f h =
-      more b m l a (a + size * n) (freeTable size last n) (freeRow size (freeLink last (n + 1)) 0) e (f ∙ ap (λ (x : ℕ). put m (a + size * n) (freeRow size x 0)) q) (sym (table-size a n)) (omega (arith, table-size a n))
+      more b m l a (a + size * n) (freeTable size last n) (freeRow size (freeLink last (n + 1)) 0) e
+      (f ∙ ap (λ (x : ℕ). put m (a + size * n) (freeRow size x 0)) q) (sym (table-size a n)) (omega (arith, table-size a n))
       ∙ ap (put b a)
-      (ap (λ (j : ℕ). freeTable size last n ++ freeRow size (freeLink last j) 0) (add-one n ∙ sym (one-add n)) ∙ table-snoc (λ k. freeRow size (freeLink last k) k) 1 n
+      (ap (λ (j : ℕ). freeTable size last n ++ freeRow size (freeLink last j) 0) (add-one n ∙ sym (one-add n))
+      ∙ table-snoc (λ k. freeRow size (freeLink last k) k) 1 n
       ∙ ap (freeTable size last) (sym (add-one n)))
     where
       one-add : (n : ℕ) → 1 + n ≡ suc n
@@ -96,7 +99,8 @@ rows-end a size i count n h q =
 -- ---- a fresh store
 
 -- the rows of a chain that rises
-rise-at : (size last i n k : ℕ) → i + n ≡ suc last → i ≤ k → k < i + n → rowAt (chainRows freePlace (freeRow size) (rise i n) ++ []) k ≡ freeRow size (freeLink last k) k
+rise-at : (size last i n k : ℕ) → i + n ≡ suc last → i ≤ k → k < i + n
+    → rowAt (chainRows freePlace (freeRow size) (rise i n) ++ []) k ≡ freeRow size (freeLink last k) k
 unfolding rise
 rise-at size last i zero k e h g = absurd (omega arith)
 rise-at size last i (suc zero) k e h g =
@@ -118,12 +122,16 @@ rise-first (suc n) h = refl
 abbrev pub freshHead : ℕ → ℕ → List ℕ
 freshHead role cells = 1 ∷ 0 ∷ 0 ∷ 1 ∷ 1 ∷ cells ∷ role ∷ 0 ∷ 0 ∷ 0 ∷ 0 ∷ 0 ∷ 0 ∷ 0 ∷ 0 ∷ 0 ∷ []
 
-fresh-is : (role cells : ℕ) → 1 ≤ cells → freshHead role cells ++ (freeTable recBytes recCount recCount ++ freeTable cellBytes cells cells) ≡ encode (fresh role cells)
+fresh-is : (role cells : ℕ) → 1 ≤ cells
+    → freshHead role cells ++ (freeTable recBytes recCount recCount ++ freeTable cellBytes cells cells) ≡ encode (fresh role cells)
 unfolding encode
 fresh-is role cells h =
-    let recs = table-same (λ k. freeRow recBytes (freeLink recCount k) k) (rowAt (recRows (fresh role cells))) 1 recCount (λ k a z. sym (rise-at recBytes recCount 1 recCount k refl a z)) in
-    let rest = table-same (λ k. freeRow cellBytes (freeLink cells k) k) (rowAt (cellRows (fresh role cells))) 1 cells (λ k a z. sym (rise-at cellBytes cells 1 cells k (omega arith) a z)) in
-    λ i. (sym (rise-first recCount (omega arith)) i ∷ 0 ∷ 0 ∷ sym (rise-first cells h) i ∷ 1 ∷ cells ∷ role ∷ 0 ∷ 0 ∷ 0 ∷ 0 ∷ 0 ∷ 0 ∷ 0 ∷ 0 ∷ 0 ∷ []) ++ (recs i ++ rest i)
+    let recs = table-same (λ k. freeRow recBytes (freeLink recCount k) k) (rowAt (recRows (fresh role cells))) 1 recCount
+    (λ k a z. sym (rise-at recBytes recCount 1 recCount k refl a z)) in
+    let rest = table-same (λ k. freeRow cellBytes (freeLink cells k) k) (rowAt (cellRows (fresh role cells))) 1 cells
+    (λ k a z. sym (rise-at cellBytes cells 1 cells k (omega arith) a z)) in
+    λ i. (sym (rise-first recCount (omega arith)) i ∷ 0 ∷ 0 ∷ sym (rise-first cells h) i ∷ 1 ∷ cells ∷ role ∷ 0 ∷ 0 ∷ 0 ∷ 0 ∷ 0 ∷ 0 ∷ 0 ∷ 0 ∷ 0 ∷ [])
+    ++ (recs i ++ rest i)
 
 -- three writes over all bytes
 pub fresh-written : (role cells : ℕ) (b m l o : List ℕ) → 1 ≤ cells → length b ≡ storeBytes cells
@@ -133,8 +141,10 @@ fresh-written role cells b m l o h e p q r =
     let recs : length (freeTable recBytes recCount recCount) ≡ recBytes * recCount = omega (arith, table-size recBytes recCount (omega arith) 0 recCount) in
     let rest : length (freeTable cellBytes cells cells) ≡ cellBytes * cells = omega (arith, table-size cellBytes cells (omega arith) 0 cells) in
     let w = then (freeTable cellBytes cells cells) (cellBytes * cells)
-    (then (freeTable recBytes recCount recCount) (recBytes * recCount) (wrote {a = 0} {n = headBytes} p refl (omega (arith, e))) q recs (omega (arith, e))) r rest (omega (arith, e)) in
-    w .is ∙ put-whole b ((freshHead role cells ++ freeTable recBytes recCount recCount) ++ freeTable cellBytes cells cells) (w .size ∙ sym e) ∙ append-assoc (freshHead role cells) (freeTable recBytes recCount recCount) (freeTable cellBytes cells cells) ∙ fresh-is role cells h
+    (then (freeTable recBytes recCount recCount) (recBytes * recCount) (wrote {a = 0} {n = headBytes} p refl (omega (arith, e))) q recs
+    (omega (arith, e))) r rest (omega (arith, e)) in
+    w .is ∙ put-whole b ((freshHead role cells ++ freeTable recBytes recCount recCount) ++ freeTable cellBytes cells cells) (w .size ∙ sym e)
+    ∙ append-assoc (freshHead role cells) (freeTable recBytes recCount recCount) (freeTable cellBytes cells cells) ∙ fresh-is role cells h
 
 pub role-small : (role : ℕ) → isRole role ≡ true → role ≤ 2
 role-small role h =
@@ -154,7 +164,8 @@ module _ (b : List ℕ) (role c : ℕ) (e : c ≡ setupCells (length b)) where
   unfolding setupOf
   setup-other z = rw (z, and-false (ltb 0 (setupCells (length b))))
 
-  pub setup-done : (l : List ℕ) → (c ≡ 0 → ⊥) → isRole role ≡ true → l ≡ encode (fresh role c) → record { number = 0; run = 0; wake = 0; store = l } ≡ setupOf b role
+  pub setup-done : (l : List ℕ) → (c ≡ 0 → ⊥) → isRole role ≡ true → l ≡ encode (fresh role c)
+      → record { number = 0; run = 0; wake = 0; store = l } ≡ setupOf b role
   unfolding setupOf
   setup-done l n z q = rw (← e, lt-ltb 0 c (omega (arith, n)), z, q)
 

@@ -58,7 +58,7 @@ records-fitting cells b r holds z = record { long = omega (arith, r .long); few 
 pub cells-fitting : (cells : ℕ) (b : List ℕ) → Room cells b → (holds : Holds) → Sized holds cellBytes → Fitting (cellTable cells) holds b
 cells-fitting cells b r holds z = record { long = omega (arith, r .long); few = r .most; sized = z }
 
-module _ (t : Table) (holds : Holds) (b : List ℕ) (x : ℕ) (f : Fitting t holds b) (s : x ≡ 0 → ⊥) (q : x ≤ t .count) where
+module _ {t : Table} {holds : Holds} {b : List ℕ} {x : ℕ} (f : Fitting t holds b) (s : x ≡ 0 → ⊥) (q : x ≤ t .count) where
   -- the row at x ends inside
   pub row-end : t .start + t .size * (x - 1) + t .size ≤ length b
   row-end =
@@ -68,7 +68,7 @@ module _ (t : Table) (holds : Holds) (b : List ℕ) (x : ℕ) (f : Fitting t hol
   row-length : length (rowOf t b x) ≡ t .size
   row-length = length-part b (rowOff (t .start) (t .size) x) (t .size) row-end
 
-  module _ (row : List ℕ) (r : row ≡ rowOf t b x) where
+  module _ {row : List ℕ} (r : row ≡ rowOf t b x) where
     pub row-sized : Sized holds (length row)
     row-sized = subst (λ (n : ℕ). Sized holds n) (sym (ap length r ∙ row-length)) (f .sized)
 
@@ -80,8 +80,8 @@ module _ (t : Table) (holds : Holds) (b : List ℕ) (x : ℕ) (f : Fitting t hol
         some (Record kind) n z = omega arith
         some Piece n z = omega arith
 
-    pub row-fits : (role : ℕ) (fine : Bool) → fine ≡ rowFits role holds (length row) row → rowFits role holds (t .size) (rowOf t b x) ≡ fine
-    row-fits role fine e = (λ i. rowFits role holds (sym (ap length r ∙ row-length) i) (sym r i)) ∙ sym e
+    pub row-fits : (role : ℕ) {fine : Bool} → fine ≡ rowFits role holds (length row) row → rowFits role holds (t .size) (rowOf t b x) ≡ fine
+    row-fits role e = (λ i. rowFits role holds (sym (ap length r ∙ row-length) i) (sym r i)) ∙ sym e
 
     pub row-next : link (rowOf t b) x ≡ getD row 0 0
     row-next = ap (λ (l : List ℕ). getD l 0 0) (sym r)
@@ -89,7 +89,8 @@ module _ (t : Table) (holds : Holds) (b : List ℕ) (x : ℕ) (f : Fitting t hol
 -- ---- the chains of a store, walked as the code does it
 
 -- a chain from a known start lies inside
-pub same-start : (b : List ℕ) (first start : ℕ) → first ≡ start → all (inside recCount) (recChain b start) ≡ true → all (inside recCount) (recChain b first) ≡ true
+pub same-start : (b : List ℕ) (first start : ℕ) → first ≡ start → all (inside recCount) (recChain b start) ≡ true
+    → all (inside recCount) (recChain b first) ≡ true
 same-start b first start e a = ap (λ (p : ℕ). all (inside recCount) (recChain b p)) e ∙ a
 
 -- the walk of a chain, where table, holds and first are known
@@ -102,13 +103,15 @@ pub piece-chain : (t : Table) (cells role : ℕ) (b : List ℕ) (first start : �
 piece-chain t cells role b first start m w e f q = chain-is t (cellTable cells) role Piece Piece b first start m w e refl f q
 
 module _ (role : ℕ) (b : List ℕ) (t : Table) (m₁ m₂ m₃ : List ℕ) (x y z e : Bool) where
-  pub records-are : (kind free held whole : ℕ) → t ≡ recordTable → kind ≡ heldKind role → free ≡ getD b freeAt 0 → held ≡ getD b heldAt 0 → whole ≡ getD b wholeAt 0
+  pub records-are : (kind free held whole : ℕ) → t ≡ recordTable → kind ≡ heldKind role
+      → free ≡ getD b freeAt 0 → held ≡ getD b heldAt 0 → whole ≡ getD b wholeAt 0
       → record { ok = x; marks = m₁ } ≡ chainMarked t role Free b free noMarks
       → record { ok = y; marks = m₂ } ≡ chainMarked t role (Record kind) b held m₁
       → record { ok = z; marks = m₃ } ≡ chainMarked t role (Record kindWhole) b whole m₂
       → e ≡ allMarked m₃ recCount → ((x && (y && z)) && e) ≡ recordsOnce role b
   records-are kind free held whole i k f h w p q r s =
-      three-of (λ p. rowFits role Free recBytes (recAt b p)) (λ p. rowFits role (Record (heldKind role)) recBytes (recAt b p)) (λ p. rowFits role (Record kindWhole) recBytes (recAt b p))
+      three-of (λ p. rowFits role Free recBytes (recAt b p)) (λ p. rowFits role (Record (heldKind role)) recBytes (recAt b p))
+      (λ p. rowFits role (Record kindWhole) recBytes (recAt b p))
       recCount (recChain b (getD b freeAt 0)) (recChain b (getD b heldAt 0)) (recChain b (getD b wholeAt 0)) noMarks m₁ m₂ m₃ x y z e
       (chain-is t recordTable role Free Free b free (getD b freeAt 0) noMarks _ i refl f p)
       (chain-is t recordTable role (Record kind) (Record (heldKind role)) b held (getD b heldAt 0) m₁ _ i (ap Record k) h q)
@@ -122,7 +125,8 @@ module _ (role : ℕ) (b : List ℕ) (t : Table) (m₁ m₂ m₃ : List ℕ) (x 
       → e ≡ allMarked m₃ cells → ((x && (y && z)) && e) ≡ cellsOnce cells role b
   cells-are cells free held whole i f h w p q r s =
       three-of (λ p. rowFits role Free cellBytes (cellAt b p)) (λ p. rowFits role Piece cellBytes (cellAt b p)) (λ p. rowFits role Piece cellBytes (cellAt b p))
-      cells (cellChain b (getD b freeCellsAt 0)) (piecesOf b (recChain b (getD b heldAt 0))) (piecesOf b (recChain b (getD b wholeAt 0))) noMarks m₁ m₂ m₃ x y z e
+      cells (cellChain b (getD b freeCellsAt 0)) (piecesOf b (recChain b (getD b heldAt 0)))
+      (piecesOf b (recChain b (getD b wholeAt 0))) noMarks m₁ m₂ m₃ x y z e
       (chain-is t (cellTable cells) role Free Free b free (getD b freeCellsAt 0) noMarks _ i refl f p)
       (q ∙ ap (λ (p : ℕ). piecesMarked cells role b (recChain b p) m₁) h)
       (r ∙ ap (λ (p : ℕ). piecesMarked cells role b (recChain b p) m₂) w)

@@ -16,8 +16,10 @@ use Rattle.machine.specs.Values.{Rec, keyOf, sameKey}
 use Rattle.machine.specs.Tests.{every}
 use Rattle.machine.specs.Chains.{walk}
 use Rattle.machine.specs.Counting.{inside, each, once}
-use Rattle.machine.specs.Layout.{freeAt, heldAt, wholeAt, freeCellsAt, countAt, slotsAt, sizeAt, sizeWidth, cellPlace, recPlace, recRow, cellRow, recAt, cellAt, numAt, cellOf, recOf, labelOf, sendingOf, recChain, cellChain, readCell, readCells, readRec, decode}
-use Rattle.machine.specs.Sound.{headTests, cellFits, recTests, recFits, noRec, distinct, recPlaces, piecePlaces, recShape, cellTests, cellShape, freeShape, shapeTests, soundTests, sound, rising}
+use Rattle.machine.specs.Layout.{freeAt, heldAt, wholeAt, freeCellsAt, countAt, slotsAt, sizeAt, sizeWidth, cellPlace, recPlace, recRow, cellRow, recAt}
+use Rattle.machine.specs.Layout.{cellAt, numAt, cellOf, recOf, labelOf, sendingOf, recChain, cellChain, readCell, readCells, readRec, decode}
+use Rattle.machine.specs.Sound.{headTests, cellFits, recTests, recFits, noRec, distinct, recPlaces, piecePlaces}
+use Rattle.machine.specs.Sound.{recShape, cellTests, cellShape, freeShape, shapeTests, soundTests, sound, rising}
 use Rattle.packet.specs.Frame.{largestPiece}
 use Rattle.laws.specs.Tests.{every-true, true-every, all-parts, all-append}
 use Rattle.laws.specs.Counting.{inside-is}
@@ -25,7 +27,8 @@ use Rattle.laws.specs.Chains.{map-place}
 use Rattle.laws.specs.Marks.{three-is}
 use Rattle.laws.specs.StoreRows.{pieces-append}
 use Rattle.rows.specs.Asked.{headFits, ownTests, recordFits, pieceFits}
-use Rattle.soundness.specs.Walked.{Room, RecordsInside, Chained, piecesAt, piecesOf, noMarks, recordsOnce, cellsOnce, readable, piecesFit, recordPieces, unlike, recordsFit}
+use Rattle.soundness.specs.Walked.{Room, RecordsInside, Chained, piecesAt, piecesOf, noMarks, recordsOnce}
+use Rattle.soundness.specs.Walked.{cellsOnce, readable, piecesFit, recordPieces, unlike, recordsFit}
 
 -- ---- lists
 
@@ -73,7 +76,8 @@ module _ (b : List ℕ) where
           row = both _ _ (a .shape) (true-every own (t .0 & t .1 .0 & t .1 .1 .0 & u .1 .0 & u .1 .1 .0 & tt));
           cells =
               true-all (λ k. pieceFits role (cellAt b k)) (piecesAt b p)
-              (all-to _ (λ k. pieceFits role (cellAt b k) ≡ true) (piecesAt b p) (λ k z. both (cellShape (cellAt b k)) _ (z .0) (z .1)) (all-zip _ _ (piecesAt b p) shapes fit));
+              (all-to _ (λ k. pieceFits role (cellAt b k) ≡ true) (piecesAt b p)
+              (λ k z. both (cellShape (cellAt b k)) _ (z .0) (z .1)) (all-zip _ _ (piecesAt b p) shapes fit));
           pieces = both _ _ (u .0) (both _ _ (u .1 .1 .1 .0) (u .1 .1 .1 .1 .0));
         }
 
@@ -85,7 +89,8 @@ module _ (b : List ℕ) where
         let q = split (rising 0 _ (readCells b _)) _ (a .pieces) in
         let w = split (eqb kind kindArriving || _) (not (eqb kind kindLeaving) || _) (q .1) in
         let each = all-true (λ k. pieceFits role (cellAt b k)) (piecesAt b p) (a .cells) in
-        let fit = all-to (λ k. pieceFits role (cellAt b k) ≡ true) (λ k. cellFits role (readCell b k) ≡ true) (piecesAt b p) (λ k z. split (cellShape (cellAt b k)) _ z .1) each in
+        let fit = all-to (λ k. pieceFits role (cellAt b k) ≡ true) (λ k. cellFits role (readCell b k) ≡ true)
+        (piecesAt b p) (λ k z. split (cellShape (cellAt b k)) _ z .1) each in
         record {
           shape = r .0;
           fits =
@@ -94,7 +99,8 @@ module _ (b : List ℕ) where
               & q .0 & t .1 .1 .1 .0 & t .1 .1 .1 .1 .0 & w .0 & w .1 & tt);
           cells =
               true-all (λ k. cellShape (cellAt b k)) (piecesAt b p)
-              (all-to (λ k. pieceFits role (cellAt b k) ≡ true) (λ k. cellShape (cellAt b k) ≡ true) (piecesAt b p) (λ k z. split (cellShape (cellAt b k)) _ z .0) each);
+              (all-to (λ k. pieceFits role (cellAt b k) ≡ true) (λ k. cellShape (cellAt b k) ≡ true)
+              (piecesAt b p) (λ k z. split (cellShape (cellAt b k)) _ z .0) each);
         }
 
   -- ---- a chain of records
@@ -178,7 +184,8 @@ module _ (b : List ℕ) where
   unfolding distinct apart
   distinct-two [] m = distinct-one m
   distinct-two (p ∷ l) m =
-      (λ i. (all-of-two (λ (q : Rec). not (sameKey (keyOf (readRec b p .label)) (keyOf (q .label)))) (recsAt l) (recsAt m) ∙ (λ j. unlike-is p l j && unlike-is p m j)) i
+      (λ i. (all-of-two (λ (q : Rec). not (sameKey (keyOf (readRec b p .label)) (keyOf (q .label)))) (recsAt l) (recsAt m)
+      ∙ (λ j. unlike-is p l j && unlike-is p m j)) i
       && distinct-two l m i)
       ∙ sym (and-assoc (all (unlike b p) l && all (unlike b p) m) (apart l m) (apart m []))
 
@@ -269,7 +276,8 @@ module _ (role : ℕ) (b : List ℕ) where
   found-records : RecordsFound → recordsOnce role b ≡ true
   found-records f =
       records-is
-      ∙ both (freeRecs && (heldRecs && wholeRecs)) (once recCount (P₀ ++ (P₁ ++ P₂))) (both freeRecs (heldRecs && wholeRecs) (f .free) (both heldRecs wholeRecs (f .held) (f .whole))) (f .places)
+      ∙ both (freeRecs && (heldRecs && wholeRecs)) (once recCount (P₀ ++ (P₁ ++ P₂)))
+      (both freeRecs (heldRecs && wholeRecs) (f .free) (both heldRecs wholeRecs (f .held) (f .whole))) (f .places)
 
   cells-found : Room C b → cellsOnce C role b ≡ true → CellsFound
   cells-found r h =
@@ -281,7 +289,8 @@ module _ (role : ℕ) (b : List ℕ) where
   found-cells : Room C b → CellsFound → cellsOnce C role b ≡ true
   found-cells r f =
       cells-is r
-      ∙ both (freeCells && (heldCells && wholeCells)) (once C (Q ++ (piecesOf b P₁ ++ piecesOf b P₂))) (both freeCells (heldCells && wholeCells) (f .free) (both heldCells wholeCells (f .held) (f .whole)))
+      ∙ both (freeCells && (heldCells && wholeCells)) (once C (Q ++ (piecesOf b P₁ ++ piecesOf b P₂)))
+      (both freeCells (heldCells && wholeCells) (f .free) (both heldCells wholeCells (f .held) (f .whole)))
       (f .places)
 
   -- ---- and sound
@@ -392,7 +401,8 @@ module _ (role : ℕ) (b : List ℕ) where
       let u = split (inside C p) (all (inside C) l) i in
       let w = split (pieceFits role (cellAt b p)) (all (λ k. pieceFits role (cellAt b k)) l) h in
       let small = every-true (cellTests (cellAt b p)) (split (cellShape (cellAt b p)) (cellFits role (cellOf 0 (cellAt b p))) (w .0) .0) .0 in
-      both (readable C b p) (all (readable C b) l) (both (inside C p) (leb (numAt sizeWidth (cellAt b p) sizeAt) largestPiece) (u .0) small) (pieces-readable l (u .1) (w .1))
+      both (readable C b p) (all (readable C b) l) (both (inside C p) (leb (numAt sizeWidth (cellAt b p) sizeAt) largestPiece) (u .0) small)
+      (pieces-readable l (u .1) (w .1))
 
   module _ (r : Room C b) (h : recordsOnce role b ≡ true) (g : cellsOnce C role b ≡ true) where
     places-in : (all (inside C) (piecesOf b P₁) ≡ true) × (all (inside C) (piecesOf b P₂) ≡ true)
@@ -427,7 +437,8 @@ module _ (role : ℕ) (b : List ℕ) where
         → ((eqb role roleReceive || eqb whole 0) && (x && y)) ≡ sound role b
     sound-is f kind held whole x y k h w p q =
         ap (λ (n : ℕ). (eqb role roleReceive || eqb n 0) && (x && y)) w
-        ∙ decided f x y (p ∙ (λ i. recordsFit (k i) b (recChain b (h i)) (recChain b (w i)))) (q ∙ ap (λ (n : ℕ). recordsFit kindWhole b (recChain b n) (recChain b 0)) w)
+        ∙ decided f x y (p ∙ (λ i. recordsFit (k i) b (recChain b (h i)) (recChain b (w i))))
+        (q ∙ ap (λ (n : ℕ). recordsFit kindWhole b (recChain b n) (recChain b 0)) w)
 
   -- the same of numbers that the code has read
   pub room-at : (cells : ℕ) → cells ≡ C → Room C b → Room cells b

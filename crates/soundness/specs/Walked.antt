@@ -14,7 +14,8 @@ use Rattle.machine.specs.Values.{Cell, Key, keyOf, sameKey}
 use Rattle.machine.specs.Rows.{rowOff}
 use Rattle.machine.specs.Chains.{link, walk}
 use Rattle.machine.specs.Counting.{inside}
-use Rattle.machine.specs.Layout.{freeAt, heldAt, wholeAt, freeCellsAt, firstCellAt, slotsAt, totalAt, sizeAt, sizeWidth, numberWidth, recAt, cellAt, numAt, labelOf, recChain, cellChain, readCells}
+use Rattle.machine.specs.Layout.{freeAt, heldAt, wholeAt, freeCellsAt, firstCellAt, slotsAt, totalAt, sizeAt, sizeWidth}
+use Rattle.machine.specs.Layout.{numberWidth, recAt, cellAt, numAt, labelOf, recChain, cellChain, readCells}
 use Rattle.machine.specs.Sound.{rising, sizes, isCut}
 use Rattle.packet.specs.Frame.{largestPiece}
 use Rattle.laws.specs.Marks.{Walked, scan, three}
@@ -71,7 +72,8 @@ noMarks = replicate (suc mostCells) 0
 -- each record once: in the free, the held or the whole chain
 abbrev pub recordsOnce : ℕ → List ℕ → Bool
 recordsOnce role b =
-    three (λ p. rowFits role Free recBytes (recAt b p)) (λ p. rowFits role (Record (heldKind role)) recBytes (recAt b p)) (λ p. rowFits role (Record kindWhole) recBytes (recAt b p))
+    three (λ p. rowFits role Free recBytes (recAt b p)) (λ p. rowFits role (Record (heldKind role)) recBytes (recAt b p))
+    (λ p. rowFits role (Record kindWhole) recBytes (recAt b p))
     recCount (recChain b (getD b freeAt 0)) (recChain b (getD b heldAt 0)) (recChain b (getD b wholeAt 0)) noMarks
 
 -- each cell once: in the free chain, or in that of a held or a whole record

@@ -48,7 +48,9 @@ pub fn marked(
     marks: &mut [u8; rows::cell::STEPS],
 ) -> bool
     requires { ⌜ Fitting t holds (now s) ⌝ }
-    ensures { λ r. ⌜ record { ok = r; marks = now (marks .exit) } ≡ chainMarked t role holds (now (s .entry)) first (now (marks .entry)) ⌝ }
+    ensures { λ r.
+        ⌜ record { ok = r; marks = now (marks .exit) }
+        ≡ chainMarked t role holds (now (s .entry)) first (now (marks .entry)) ⌝ }
 {
     let start = t.start;
     let size = t.size;

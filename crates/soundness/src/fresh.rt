@@ -65,7 +65,8 @@ fn put_rising(store: &mut [u8], a: usize, n: usize, count: usize)
 
 // A fresh store of the role and so many cells, written over all bytes.
 fn put_fresh(store: &mut [u8], role: u64, cells: usize)
-    requires { ⌜ (isRole role ≡ true) × (1 ≤ cells) × (cells ≤ mostCells) × (length (now store) ≡ storeBytes cells) ⌝ }
+    requires { ⌜ (isRole role ≡ true) × (1 ≤ cells) × (cells ≤ mostCells)
+        × (length (now store) ≡ storeBytes cells) ⌝ }
     ensures { λ _. ⌜ now (store .exit) ≡ encode (fresh role cells) ⌝ }
 {
     // first free record, held record, whole record and free cell; form, cells, role; zeros
@@ -97,9 +98,11 @@ fn put_fresh(store: &mut [u8], role: u64, cells: usize)
     put_rising(store, rows::cell::FIRST, rows::cell::BYTES, cells);
 }
 
-// Makes a store fresh: 0, or 25 for a length that is no store's or a role that is none.
+// Makes a store fresh; refuses a length that is no store's, and a role that is none.
 pub fn setup(store: &mut [u8], role: u64) -> u64
-    ensures { λ r. ⌜ record { number = r; run = 0; wake = 0; store = now (store .exit) } ≡ setupOf (now (store .entry)) role ⌝ }
+    ensures { λ r.
+        ⌜ record { number = r; run = 0; wake = 0; store = now (store .exit) }
+        ≡ setupOf (now (store .entry)) role ⌝ }
 {
     let cells = cells_of(store.len());
     if cells == 0 {
@@ -110,5 +113,5 @@ pub fn setup(store: &mut [u8], role: u64) -> u64
         return answer::UNSOUND_STORE;
     }
     put_fresh(store, role, cells);
-    0
+    answer::DONE
 }

@@ -18,7 +18,10 @@ pub fn marked(
     marks: &mut [u8; rows::cell::STEPS],
 ) -> bool
     requires { ⌜ Room cells (now s) × (all (inside recCount) (recChain (now s) first) ≡ true) ⌝ }
-    ensures { λ r. ⌜ record { ok = r; marks = now (marks .exit) } ≡ piecesMarked cells role (now (s .entry)) (recChain (now (s .entry)) first) (now (marks .entry)) ⌝ }
+    ensures { λ r.
+        let b = now (s .entry) in
+        ⌜ record { ok = r; marks = now (marks .exit) }
+        ≡ piecesMarked cells role b (recChain b first) (now (marks .entry)) ⌝ }
 {
     let mut x: usize = first;
     let mut n: usize = 0;

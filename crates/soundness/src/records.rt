@@ -34,10 +34,14 @@ fn same_key(s: &[u8], cells: usize, x: usize, y: usize) -> bool
     octets::equal(&s[a..a + ID_SIZE], &s[e..e + ID_SIZE])
 }
 
-// Whether no record from `first` on, where n steps of the walk are made, has the key of the record x.
+// Whether no record from `first` on, where `made` steps of the walk are made, has the key of the record x.
 fn no_other(s: &[u8], cells: usize, x: usize, first: usize, made: usize) -> bool
-    requires { ⌜ Room cells (now s) × At x × (made ≤ suc recCount) × (all (inside recCount) (walk (link (recAt (now s))) (suc recCount - made) first) ≡ true) ⌝ }
-    ensures { λ r. ⌜ r ≡ all (unlike (now (s .entry)) x) (walk (link (recAt (now (s .entry)))) (suc recCount - made) first) ⌝ }
+    requires { let b = now s in
+        ⌜ Room cells b × At x × (made ≤ suc recCount)
+        × (all (inside recCount) (walk (link (recAt b)) (suc recCount - made) first) ≡ true) ⌝ }
+    ensures { λ r.
+        let b = now (s .entry) in
+        ⌜ r ≡ all (unlike b x) (walk (link (recAt b)) (suc recCount - made) first) ⌝ }
 {
     let mut y: usize = first;
     let mut n: usize = made;
@@ -71,7 +75,9 @@ fn has_pieces(s: &[u8], cells: usize, x: usize, kind: u64) -> bool
 // Whether each record from `first` on has its pieces, and a key that neither a later one nor one from `other` on has.
 pub fn fit(s: &[u8], cells: usize, kind: u64, first: usize, other: usize) -> bool
     requires { ⌜ Chained cells (now s) first × (all (inside recCount) (recChain (now s) other) ≡ true) ⌝ }
-    ensures { λ r. ⌜ r ≡ recordsFit kind (now (s .entry)) (recChain (now (s .entry)) first) (recChain (now (s .entry)) other) ⌝ }
+    ensures { λ r.
+        let b = now (s .entry) in
+        ⌜ r ≡ recordsFit kind b (recChain b first) (recChain b other) ⌝ }
 {
     let mut x: usize = first;
     let mut n: usize = 0;

@@ -13,9 +13,9 @@ use Rattle.store.specs.Clearing.{orElse, cellFree, freeFrom, clearFrom, 
 use Rattle.store.specs.ClearedLaws.{chain-next, cell-free-long}
 
 -- the link is written, then zeros: the row of a free cell
-pub cell-is : (b m l : List ℕ) (row to p end : ℕ) → Clearable p end b → 0 < p → row ≡ cellOff p → to ≡ orElse end (getD b row 0)
+pub cell-is : {b m l : List ℕ} {row to p end : ℕ} → Clearable p end b → 0 < p → row ≡ cellOff p → to ≡ orElse end (getD b row 0)
     → m ≡ put b row (to ∷ []) → l ≡ put m (row + 1) (replicate (cellBytes - 1) 0) → l ≡ cellFree end p b
-cell-is b m l row to p end h z e f w1 w2 =
+cell-is {b} {m} {l} {row} {to} {p} {end} h z e f w1 w2 =
     more b m l row (row + 1) (to ∷ []) (replicate (cellBytes - 1) 0) w1 w2 refl (omega (arith, h .long, h .start))
     ∙ (λ i. put b row (freeRow cellBytes (f i) p)) ∙ (λ i. put b (e i) (freeRow cellBytes (orElse end (getD b (e i) 0)) p))
 
@@ -26,7 +26,7 @@ pub record Freeing (end first : ℕ) (b₀ b : List ℕ) (p n : ℕ) : Type 0 wh
   pub long : length b ≡ length b₀
   pub gives : freeFrom end (suc mostCells - n) p b ≡ freeFrom end (suc mostCells) first b₀
 
-module _ (end first : ℕ) (b₀ b : List ℕ) (p n : ℕ) (h : Freeing end first b₀ b p n) where
+module _ {end first : ℕ} {b₀ b : List ℕ} {p n : ℕ} (h : Freeing end first b₀ b p n) where
   pub frees-out : suc mostCells ≤ n → b ≡ freeFrom end (suc mostCells) first b₀
   unfolding freeFrom
   frees-out g = let e : suc mostCells - n ≡ 0 = omega arith in (rw e at (h .gives))
@@ -51,6 +51,6 @@ module _ (end first : ℕ) (b₀ b : List ℕ) (p n : ℕ) (h : Freeing end firs
           gives = (λ i. freeFrom end (fuel i) (e i) (f i)) ∙ (rw (ne-eqb p 0 z) at left);
         }
 
-pub clear-is : (b m l : List ℕ) (first to : ℕ) → m ≡ freeFrom (getD b freeCellsAt 0) (suc mostCells) first b → to ≡ orElse (getD b freeCellsAt 0) first
-    → l ≡ put m freeCellsAt (to ∷ []) → l ≡ clearFrom first b
-clear-is b m l first to e f w = w ∙ (λ i. put (e i) freeCellsAt (f i ∷ []))
+pub clear-is : (b : List ℕ) {m l : List ℕ} (first : ℕ) {to : ℕ} → m ≡ freeFrom (getD b freeCellsAt 0) (suc mostCells) first b
+    → to ≡ orElse (getD b freeCellsAt 0) first → l ≡ put m freeCellsAt (to ∷ []) → l ≡ clearFrom first b
+clear-is b first e f w = w ∙ (λ i. put (e i) freeCellsAt (f i ∷ []))

@@ -14,13 +14,14 @@ use Rattle.store.specs.HeldAt.{placeAt, keyIn}
 use Rattle.store.specs.Finishing.{finished}
 
 -- the id is read from the row
-pub end-is : (b : List ℕ) (row at r : ℕ) → row ≡ recOff (placeAt b at) → r ≡ seek (take (row + idAt + idWidth - (row + idAt)) (drop (row + idAt) b)) b wholeAt
-    → r ≡ seek (keyIn b at) b wholeAt
-end-is b row at r e f =
-    f ∙ ap (λ (k : Key). seek k b wholeAt) (part-of b (row + idAt) (row + idAt + idWidth) idWidth (omega arith) ∙ ap (λ (o : ℕ). part b (o + idAt) idWidth) e)
+pub end-is : (b : List ℕ) {row r : ℕ} (link : ℕ) → row ≡ recOff (placeAt b link)
+    → r ≡ seek (take (row + idAt + idWidth - (row + idAt)) (drop (row + idAt) b)) b wholeAt → r ≡ seek (keyIn b link) b wholeAt
+end-is b {row = row} link e f =
+    f ∙ ap (λ (k : Key). seek k b wholeAt)
+    (part-of b (row + idAt) (row + idAt + idWidth) idWidth (omega arith) ∙ ap (λ (o : ℕ). part b (o + idAt) idWidth) e)
 
-pub finished-is : (b m1 m2 l : List ℕ) (row at last : ℕ) → row ≡ recOff (placeAt b at) → m1 ≡ put b at (getD b row 0 ∷ []) → m2 ≡ put m1 row (0 ∷ kindWhole ∷ [])
-    → l ≡ put m2 last (placeAt b at ∷ []) → l ≡ finished at last b
-finished-is b m1 m2 l row at last e w1 w2 w3 =
-    w3 ∙ (λ i. put (w2 i) last (placeAt b at ∷ [])) ∙ (λ i. put (put (w1 i) row (0 ∷ kindWhole ∷ [])) last (placeAt b at ∷ []))
-    ∙ (λ i. put (put (put b at (getD b (e i) 0 ∷ [])) (e i) (0 ∷ kindWhole ∷ [])) last (placeAt b at ∷ []))
+pub finished-is : (b : List ℕ) {m1 m2 l : List ℕ} {row : ℕ} (link last : ℕ) → row ≡ recOff (placeAt b link) → m1 ≡ put b link (getD b row 0 ∷ [])
+    → m2 ≡ put m1 row (0 ∷ kindWhole ∷ []) → l ≡ put m2 last (placeAt b link ∷ []) → l ≡ finished link last b
+finished-is b {row = row} link last e w1 w2 w3 =
+    w3 ∙ (λ i. put (w2 i) last (placeAt b link ∷ [])) ∙ (λ i. put (put (w1 i) row (0 ∷ kindWhole ∷ [])) last (placeAt b link ∷ []))
+    ∙ (λ i. put (put (put b link (getD b (e i) 0 ∷ [])) (e i) (0 ∷ kindWhole ∷ [])) last (placeAt b link ∷ []))

@@ -20,7 +20,7 @@ pub record Following (k b : List ℕ) (at link n : ℕ) : Type 0 where
   pub within : RecLink b link
   pub gives : seekFrom k b (suc recCount - n) link ≡ seek k b at
 
-module _ (k b : List ℕ) (at link n : ℕ) (h : Following k b at link n) where
+module _ {k b : List ℕ} {at link n : ℕ} (h : Following k b at link n) where
   pub ends-out : suc recCount ≤ n → link ≡ seek k b at
   unfolding seekFrom
   ends-out g = let e : suc recCount - n ≡ 0 = omega arith in (rw e at (h .gives))
@@ -32,24 +32,34 @@ module _ (k b : List ℕ) (at link n : ℕ) (h : Following k b at link n) where
     left : seekFrom k b (suc (recCount - n)) link ≡ seek k b at
     left = ap (λ (m : ℕ). seekFrom k b m link) (sym fuel) ∙ h .gives
 
-    pub ends-zero : getD b link 0 ≡ 0 → link ≡ seek k b at
-    ends-zero e = sym (seek-end k b (recCount - n) link e) ∙ left
+    -- the link leads to the place p
+    module _ {p : ℕ} (read : p ≡ getD b link 0) where
+      pub ends-zero : p ≡ 0 → link ≡ seek k b at
+      ends-zero e = sym (seek-end k b (recCount - n) link (sym read ∙ e)) ∙ left
 
-    module _ (some : getD b link 0 ≡ 0 → ⊥) (row : ℕ) (at-row : row ≡ recOff (getD b link 0)) (q : Bool)
-        (equal : q ≡ same k (take (row + idAt + idWidth - (row + idAt)) (drop (row + idAt) b))) where
-      tested : q ≡ sameKey k (idIn b (getD b link 0))
-      unfolding sameKey
-      tested = equal ∙ ap (same k) (part-of b (row + idAt) (row + idAt + idWidth) idWidth (omega arith) ∙ ap (λ (p : ℕ). part b (p + idAt) idWidth) at-row)
+      -- and there the row starts whose id is compared
+      module _ (z : p ≡ 0 → ⊥) {row : ℕ} (starts : row ≡ recOff p) {q : Bool}
+          (equal : q ≡ same k (take (row + idAt + idWidth - (row + idAt)) (drop (row + idAt) b))) where
+        some : getD b link 0 ≡ 0 → ⊥
+        some e = z (read ∙ e)
 
-      pub ends-here : q ≡ true → link ≡ seek k b at
-      ends-here e = sym (seek-here k b (recCount - n) link some (sym tested ∙ e)) ∙ left
+        at-row : row ≡ recOff (getD b link 0)
+        at-row = starts ∙ ap recOff read
 
-      pub goes-on : q ≡ false → RecLink b (recOff (getD b link 0)) → Following k b at row (n + 1)
-      goes-on e r = record {
-        turns = omega arith;
-        within = rw at-row r;
-        gives = (λ i. seekFrom k b (next i) (at-row i)) ∙ sym (seek-next k b (recCount - n) link some (sym tested ∙ e)) ∙ left;
-      }
-        where
-          next : suc recCount - (n + 1) ≡ recCount - n
-          next = omega arith
+        tested : q ≡ sameKey k (idIn b (getD b link 0))
+        unfolding sameKey
+        tested =
+            equal ∙ ap (same k) (part-of b (row + idAt) (row + idAt + idWidth) idWidth (omega arith) ∙ ap (λ (o : ℕ). part b (o + idAt) idWidth) at-row)
+
+        pub ends-here : q ≡ true → link ≡ seek k b at
+        ends-here e = sym (seek-here k b (recCount - n) link some (sym tested ∙ e)) ∙ left
+
+        pub goes-on : q ≡ false → RecLink b (recOff p) → Following k b at row (n + 1)
+        goes-on e r = record {
+          turns = omega arith;
+          within = rw starts r;
+          gives = (λ i. seekFrom k b (next i) (at-row i)) ∙ sym (seek-next k b (recCount - n) link some (sym tested ∙ e)) ∙ left;
+        }
+          where
+            next : suc recCount - (n + 1) ≡ recCount - n
+            next = omega arith

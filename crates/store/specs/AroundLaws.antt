@@ -68,4 +68,5 @@ module _ (role : ℕ) (b : List ℕ) (y : Bytes b) (at : ℕ) (h : HeldAt role b
   pub around-link : at ≡ linkBehind kind (here-around .before)
   around-link =
       h .is ∙ ap (λ (k : Key). seek k b heldAt) (sym (here-key role b y at h))
-      ∙ held-found role s (valid role b y (h .sound)) b (rep role b y (h .sound)) (recKey r) r (held-own (keyIn b at) r s (held-here role b y at h)) here-around .is
+      ∙ held-found role s (valid role b y (h .sound)) b (rep role b y (h .sound)) (recKey r) r
+      (held-own (keyIn b at) r s (held-here role b y at h)) here-around .is

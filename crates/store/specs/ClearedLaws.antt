@@ -35,7 +35,8 @@ pub links-chain : (b : List ℕ) (p : ℕ) → Links b → p ≤ count b → Cle
 links-chain b p h g = record { count = count b; most = h .most; long = h .long; links = h .cells; start = g; stop = h .freeCells }
 
 -- a write to the head or a record that leaves the link to the free cells leaves all links of cells
-pub chain-put : (p : ℕ) (b : List ℕ) (o : ℕ) (v : List ℕ) → Clearable p (getD b freeCellsAt 0) b → o + length v ≤ storeBytes 0 → getD (put b o v) freeCellsAt 0 ≡ getD b freeCellsAt 0
+pub chain-put : (p : ℕ) (b : List ℕ) (o : ℕ) (v : List ℕ) → Clearable p (getD b freeCellsAt 0) b
+    → o + length v ≤ storeBytes 0 → getD (put b o v) freeCellsAt 0 ≡ getD b freeCellsAt 0
     → Clearable p (getD (put b o v) freeCellsAt 0) (put b o v)
 chain-put p b o v h g e =
     let fits : o + length v ≤ length b = omega (arith, h .long) in
@@ -56,7 +57,9 @@ module _ (p end : ℕ) (b : List ℕ) (h : Clearable p end b) (some : 0 < p) whe
   row = freeRow cellBytes (orElse end (getD b (cellOff p) 0)) p
 
   wrote : Wrote (storeBytes 0) cellBytes p row b (cellFree end p b)
-  wrote = write-row (storeBytes 0) cellBytes p row b some (omega (arith, h .long, h .start)) (free-length cellBytes (orElse end (getD b (cellOff p) 0)) p (omega arith))
+  wrote =
+      write-row (storeBytes 0) cellBytes p row b some (omega (arith, h .long, h .start))
+      (free-length cellBytes (orElse end (getD b (cellOff p) 0)) p (omega arith))
 
   links-stay : (k : ℕ) → 0 < k → k ≤ h .count → getD (cellFree end p b) (cellOff k) 0 ≤ h .count
   links-stay k i j =
@@ -115,7 +118,8 @@ module _ (end C : ℕ) where
       apart k p ps n u q e = let z : one (eqb k p) ≡ 1 = ap one (eq-eqb k p e) in omega (arith, u k, one-le (inside n k))
 
   -- the chain of the places ps is freed, in front of the free places FC
-  pub clear-freed : (ps FC b : List ℕ) → C ≤ mostCells → length b ≡ storeBytes C → Few C ps → Linked (link (cellAt b)) ps → first FC ≡ end → getD b freeCellsAt 0 ≡ end
+  pub clear-freed : (ps FC b : List ℕ) → C ≤ mostCells → length b ≡ storeBytes C → Few C ps
+      → Linked (link (cellAt b)) ps → first FC ≡ end → getD b freeCellsAt 0 ≡ end
       → clearFrom (first ps) b ≡ cellsFreed b ps FC
   clear-freed ps FC b m s u l e f =
       (λ i. put (freeFrom (f i) (suc mostCells) (first ps) b) freeCellsAt (orElse (f i) (first ps) ∷ []))

@@ -11,26 +11,26 @@ use Rattle.machine.specs.Layout.{freeCellsAt, cellOff, freeRow}
 
 -- a place, or `end` where a chain ends
 abbrev pub orElse : ℕ → ℕ → ℕ
-orElse end p = cond (eqb p 0) end p
+orElse end place = cond (eqb place 0) end place
 
--- the cell at p is free; it leads where it led, the last one to `end`
+-- the cell at a place is free; it leads where it led, the last one to `end`
 abbrev pub cellFree : ℕ → ℕ → List ℕ → List ℕ
-cellFree end p b = put b (cellOff p) (freeRow cellBytes (orElse end (getD b (cellOff p) 0)) p)
+cellFree end place b = put b (cellOff place) (freeRow cellBytes (orElse end (getD b (cellOff place) 0)) place)
 
--- the cells from p on are free, at most n of them
+-- the cells from a place on are free, at most n of them
 unfoldable pub freeFrom : ℕ → ℕ → ℕ → List ℕ → List ℕ
-freeFrom end zero p b = b
-freeFrom end (suc n) p b = cond (eqb p 0) b (freeFrom end n (getD b (cellOff p) 0) (cellFree end p b))
+freeFrom end zero place b = b
+freeFrom end (suc n) place b = cond (eqb place 0) b (freeFrom end n (getD b (cellOff place) 0) (cellFree end place b))
 
--- the chain of cells that starts at the place p is free, in front of the free cells
+-- the chain of cells that starts at a place is free, in front of the free cells
 abbrev pub clearFrom : ℕ → List ℕ → List ℕ
-clearFrom p b = put (freeFrom (getD b freeCellsAt 0) (suc mostCells) p b) freeCellsAt (orElse (getD b freeCellsAt 0) p ∷ [])
+clearFrom place b = put (freeFrom (getD b freeCellsAt 0) (suc mostCells) place b) freeCellsAt (orElse (getD b freeCellsAt 0) place ∷ [])
 
--- in bytes of some count of cells every cell's link is in range, and so are the places p and `end`
-pub record Clearable (p end : ℕ) (b : List ℕ) : Type 0 where
+-- in bytes of some count of cells every cell's link is in range, and so are that place and `end`
+pub record Clearable (place end : ℕ) (b : List ℕ) : Type 0 where
   pub count : ℕ
   pub most : count ≤ mostCells
   pub long : length b ≡ storeBytes count
   pub links : (k : ℕ) → 0 < k → k ≤ count → getD b (cellOff k) 0 ≤ count
-  pub start : p ≤ count
+  pub start : place ≤ count
   pub stop : end ≤ count

@@ -15,7 +15,8 @@ use Rattle.machine.specs.Codes.{roleReceive, heldKind, kindWhole}
 use Rattle.machine.specs.Values.{Rec, Store, Key, sameKey}
 use Rattle.machine.specs.Chains.{first, link, chainRows}
 use Rattle.machine.specs.Counting.{occurs}
-use Rattle.machine.specs.Layout.{freeAt, heldAt, wholeAt, freeCellsAt, firstCellAt, recOff, recPlace, cellPlace, freeRow, recRow, headRow, recAt, cellAt, encode, decode}
+use Rattle.machine.specs.Layout.{freeAt, heldAt, wholeAt, freeCellsAt, firstCellAt, recOff, recPlace, cellPlace}
+use Rattle.machine.specs.Layout.{freeRow, recRow, headRow, recAt, cellAt, encode, decode}
 use Rattle.machine.specs.Sound.{piecePlaces, sound}
 use Rattle.machine.specs.Valid.{RecSized, Valid}
 use Rattle.machine.specs.Receive.{recKey, found, dropped, dropAt, dropStep, takeFrom, takeStep}
@@ -68,22 +69,26 @@ release-is s b u r h =
     let p = r .place in
     let C = s .setup .cells in
     let row : List ℕ = freeRow recBytes (first (s .free)) p in
-    let w = write-row headBytes recBytes p row u (h .place .0) (omega (arith, h .place .0, h .place .1, h .size)) (free-length recBytes (first (s .free)) p (omega arith)) in
+    let w = write-row headBytes recBytes p row u (h .place .0) (omega (arith, h .place .0, h .place .1, h .size))
+    (free-length recBytes (first (s .free)) p (omega arith)) in
     let room : headBytes ≤ length (put u (recOff p) row) = omega (arith, w .long, h .size) in
     let e : recFree p u ≡ recFreed u (s .free) p = λ i. put (put u (recOff p) (freeRow recBytes (h .free i) p)) freeAt (p ∷ []) in
     let same : (k : ℕ) → cellAt (recFreed u (s .free) p) k ≡ cellAt b k =
-    λ k. head-leaves-cells freeAt (p ∷ []) (put u (recOff p) row) (omega arith) room k ∙ rec-leaves-cells p row u (put u (recOff p) row) w (h .place .1) k ∙ h .cells k in
+    λ k. head-leaves-cells freeAt (p ∷ []) (put u (recOff p) row) (omega arith) room k
+    ∙ rec-leaves-cells p row u (put u (recOff p) row) w (h .place .1) k ∙ h .cells k in
     ap (clearFrom (first (map cellPlace (r .cells)))) e
     ∙ clear-freed (first (s .freeCells)) C (map cellPlace (r .cells)) (s .freeCells) (recFreed u (s .free) p) (h .most)
     (length-put (put u (recOff p) row) freeAt (p ∷ []) (omega (arith, room)) ∙ w .long ∙ h .size) (h .once)
-    (linked-same (link (cellAt b)) (link (cellAt (recFreed u (s .free) p))) (map cellPlace (r .cells)) (λ k q. ap (λ (l : List ℕ). getD l 0 0) (same k)) (h .linked))
+    (linked-same (link (cellAt b)) (link (cellAt (recFreed u (s .free) p))) (map cellPlace (r .cells))
+    (λ k q. ap (λ (l : List ℕ). getD l 0 0) (same k)) (h .linked))
     refl
     (ap (λ (l : List ℕ). getD l freeCellsAt 0) (sym e) ∙ free-kept p u (h .place .0) (h .place .1) (omega (arith, h .size)) ∙ h .freeCells)
 
 -- the row of the record is in the bytes
 module _ (b : List ℕ) (kind next : ℕ) (r : Rec) (z : RecSized r) (e : recAt b (r .place) ≡ recRow kind next r) where
   -- unlinking is a release, once the link to the record leads to the next
-  unlink-is : (s : Store) (at o : ℕ) → at ≡ o → getD b at 0 ≡ r .place → Out s b (put b o (next ∷ [])) r → unlinked at b ≡ releaseBytes s (put b o (next ∷ [])) r
+  unlink-is : (s : Store) (at o : ℕ) → at ≡ o → getD b at 0 ≡ r .place → Out s b (put b o (next ∷ [])) r
+      → unlinked at b ≡ releaseBytes s (put b o (next ∷ [])) r
   unlink-is s at o f g out =
       (λ i. released (g i) (getD b (recOff (g i) + firstCellAt) 0) (put b (f i) (getD b (recOff (g i)) 0 ∷ [])))
       ∙ (λ i. released (r .place) (first-is b kind next r z e i) (put b o (next-is b kind next r z e i ∷ [])))
@@ -110,7 +115,8 @@ module _ (role : ℕ) (s : Store) (v : Valid role s) (b : List ℕ) (rep : Rep s
   row-held : recAt b (r .place) ≡ recRow kind (first (map recPlace m)) r
   row-held =
       held-right (recAt b) (rowsTo recPlace (recRow kind) (r .place) l) (chainRows recPlace (recRow kind) (r ∷ m))
-      (subst (Held (recAt b)) (ap (chainRows recPlace (recRow kind)) (q .is) ∙ chain-append recPlace (recRow kind) l (r ∷ m)) (held-held s (recAt b) (rep .recs))) .0
+      (subst (Held (recAt b)) (ap (chainRows recPlace (recRow kind)) (q .is) ∙ chain-append recPlace (recRow kind) l (r ∷ m))
+      (held-held s (recAt b) (rep .recs))) .0
 
   head-kept : (j : ℕ) → j < headBytes → getD u j 0 ≡ getD (put (headRow s) heldAt (first (map recPlace (l ++ m)) ∷ [])) j 0
   head-kept j h =
@@ -140,7 +146,8 @@ module _ (role : ℕ) (s : Store) (v : Valid role s) (b : List ℕ) (rep : Rep s
   dropped-encode : unlinked (seek k b heldAt) b ≡ encode (dropStep k s)
   dropped-encode =
       let z = held-found role s v b rep k r e q in
-      unlink-is b kind (first (map recPlace m)) r (all-found sameKey recKey RecSized k r (s .held) e (all-left RecSized (s .held) (s .whole) (v .sized))) row-held
+      unlink-is b kind (first (map recPlace m)) r
+      (all-found sameKey recKey RecSized k r (s .held) e (all-left RecSized (s .held) (s .whole) (v .sized))) row-held
       s (seek k b heldAt) (linkBehind kind l) (z .is) (z .leads) out-held
       ∙ rep-encode role (dropStep k s) (drop-valid role k s v) (releaseBytes s u r)
       (subst (λ (x : Store). Rep x (releaseBytes s u r)) store-dropped (drop-rep role s v b rep l r m (q .is)))
@@ -168,9 +175,12 @@ module _ (s : Store) (v : Valid roleReceive s) (b : List ℕ) (rep : Rep s b) (r
     most = v .most;
     size = length-put b wholeAt (first (map recPlace l) ∷ []) (omega (arith, room)) ∙ rep .size;
     cells = λ k. head-leaves-cells wholeAt (first (map recPlace l) ∷ []) b (omega arith) room k;
-    free = getD-put-before b wholeAt (first (map recPlace l) ∷ []) (omega (arith, room)) freeAt (omega arith) ∙ head-byte roleReceive s v b rep freeAt (omega arith);
-    freeCells = getD-put-after b wholeAt (first (map recPlace l) ∷ []) (omega (arith, room)) freeCellsAt (omega arith) ∙ head-byte roleReceive s v b rep freeCellsAt (omega arith);
-    place = one-inside recCount (r .place) (omega (arith, recs-once roleReceive s v (r .place), ap (λ (x : List Rec). occurs (r .place) (map recPlace x)) is, self (r .place)));
+    free = getD-put-before b wholeAt (first (map recPlace l) ∷ []) (omega (arith, room)) freeAt (omega arith)
+        ∙ head-byte roleReceive s v b rep freeAt (omega arith);
+    freeCells = getD-put-after b wholeAt (first (map recPlace l) ∷ []) (omega (arith, room)) freeCellsAt (omega arith)
+        ∙ head-byte roleReceive s v b rep freeCellsAt (omega arith);
+    place = one-inside recCount (r .place)
+        (omega (arith, recs-once roleReceive s v (r .place), ap (λ (x : List Rec). occurs (r .place) (map recPlace x)) is, self (r .place)));
     once = once-whole;
     linked = pieces-linked b (s .setup .cells) r (v .most) (whole-of (Walks b) (pieces-walk roleReceive s v b rep)) once-whole;
   }
@@ -191,7 +201,7 @@ module _ (s : Store) (v : Valid roleReceive s) (b : List ℕ) (rep : Rep s b) (r
 -- a held record can be dropped
 module _ (role : ℕ) (b : List ℕ) (y : Bytes b) (at : ℕ) (h : HeldAt role b at) where
   pub here-droppable : Droppable at b
-  here-droppable = record { links = here-links role b y at h; link = here-link role b y at h; some = h .some }
+  here-droppable = record { links = here-links role b y at h; led = here-link role b y at h; some = h .some }
 
   pub unlinked-drops : unlinked at b ≡ encode (dropStep (keyIn b at) (decode b))
   unlinked-drops =
@@ -208,5 +218,6 @@ unlinked-takes b y h = go (decode b .whole) refl
     w = rep roleReceive b y (h .sound)
 
     go : (l : List Rec) → decode b .whole ≡ l → unlinked wholeAt b ≡ encode (takeStep (decode b))
-    go [] e = absurd (omega (arith, h .linked .some, head-byte roleReceive (decode b) v b w wholeAt (omega arith), ap (λ (x : List Rec). first (map recPlace x)) e))
+    go [] e =
+        absurd (omega (arith, h .linked .some, head-byte roleReceive (decode b) v b w wholeAt (omega arith), ap (λ (x : List Rec). first (map recPlace x)) e))
     go (r ∷ l) e = taken-encode (decode b) v b w r l e

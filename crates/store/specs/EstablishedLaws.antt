@@ -39,7 +39,7 @@ pub openable : (b : List ℕ) → Links b → 0 < getD b freeAt 0 → Openable b
 openable b h g = record { some = g; small = h .free .small; long = omega (arith, h .long) }
 
 pub takable : (b : List ℕ) → Links b → sound roleReceive b ≡ true → 0 < getD b wholeAt 0 → Takable b
-takable b h t g = record { sound = t; linked = record { links = h; link = h .whole; some = g } }
+takable b h t g = record { sound = t; linked = record { links = h; led = h .whole; some = g } }
 
 placed : (l : List Rec) → All (λ (r : Rec). (0 < r .place) × RecSized r) l → All (λ (r : Rec). 0 < r .place) l
 placed l h = all-to (λ (r : Rec). (0 < r .place) × RecSized r) (λ (r : Rec). 0 < r .place) l (λ r z. z .0) h
@@ -66,7 +66,8 @@ module _ (role : ℕ) (b : List ℕ) (y : Bytes b) (t : sound role b ≡ true) w
           (omega (
             arith,
             held-found role (decode b) valid b rep k r e (found-split sameKey recKey k r (decode b .held) e) .leads,
-            all-found sameKey recKey (λ (x : Rec). 0 < x .place) k r (decode b .held) e (placed (decode b .held) (held-leads role (decode b) valid b rep .fine)),
+            all-found sameKey recKey (λ (x : Rec). 0 < x .place) k r (decode b .held) e
+                (placed (decode b .held) (held-leads role (decode b) valid b rep .fine)),
           ))
 
   pub whole-is : (k : Key) → ltb 0 (getD b (seek k b wholeAt) 0) ≡ isSome (found k (decode b .whole))
@@ -78,7 +79,8 @@ module _ (role : ℕ) (b : List ℕ) (y : Bytes b) (t : sound role b ≡ true) w
           (omega (
             arith,
             whole-found role (decode b) valid b rep k r e (found-split sameKey recKey k r (decode b .whole) e) .leads,
-            all-found sameKey recKey (λ (x : Rec). 0 < x .place) k r (decode b .whole) e (placed (decode b .whole) (whole-leads role (decode b) valid b rep .fine)),
+            all-found sameKey recKey (λ (x : Rec). 0 < x .place) k r (decode b .whole) e
+                (placed (decode b .whole) (whole-leads role (decode b) valid b rep .fine)),
           ))
 
   -- links that are found stand inside the store
@@ -90,7 +92,9 @@ module _ (role : ℕ) (b : List ℕ) (y : Bytes b) (t : sound role b ≡ true) w
 
   -- whether there is a free record, and a free cell
   pub free-is : ltb 0 (getD b freeAt 0) ≡ ltb 0 (length (decode b .free))
-  free-is = ap (ltb 0) (head-byte role (decode b) valid b rep freeAt (omega arith)) ∙ some-first recCount (decode b .free) (λ k. omega (arith, recs-once role (decode b) valid k))
+  free-is =
+      ap (ltb 0) (head-byte role (decode b) valid b rep freeAt (omega arith))
+      ∙ some-first recCount (decode b .free) (λ k. omega (arith, recs-once role (decode b) valid k))
 
   pub freeCells-is : ltb 0 (getD b freeCellsAt 0) ≡ ltb 0 (length (decode b .freeCells))
   freeCells-is =

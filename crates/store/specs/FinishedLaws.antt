@@ -41,7 +41,8 @@ module _ (b : List ℕ) (y : Bytes b) (at : ℕ) (h : HeldAt roleReceive b at) w
 
   -- a search for the record's own key ends where the whole chain ends
   last-is : seek (keyIn b at) b wholeAt ≡ linkLast (s .whole)
-  last-is = whole-none roleReceive s (valid roleReceive b y (h .sound)) b (rep roleReceive b y (h .sound)) (keyIn b at) (here-not-whole roleReceive b y at h) .is
+  last-is =
+      whole-none roleReceive s (valid roleReceive b y (h .sound)) b (rep roleReceive b y (h .sound)) (keyIn b at) (here-not-whole roleReceive b y at h) .is
 
   pub last-inside : seek (keyIn b at) b wholeAt < length b
   last-inside =

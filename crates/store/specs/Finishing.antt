@@ -8,7 +8,7 @@ use Rattle.machine.specs.Codes.{kindWhole}
 use Rattle.machine.specs.Layout.{recOff}
 use Rattle.store.specs.HeldAt.{placeAt}
 
--- the record whose link stands at byte `at` becomes whole; at byte `last` the whole chain ends
+-- the record whose link stands at byte `link` becomes whole; at byte `last` the whole chain ends
 abbrev pub finished : ℕ → ℕ → List ℕ → List ℕ
-finished at last b =
-    put (put (put b at (getD b (recOff (placeAt b at)) 0 ∷ [])) (recOff (placeAt b at)) (0 ∷ kindWhole ∷ [])) last (placeAt b at ∷ [])
+finished link last b =
+    put (put (put b link (getD b (recOff (placeAt b link)) 0 ∷ [])) (recOff (placeAt b link)) (0 ∷ kindWhole ∷ [])) last (placeAt b link ∷ [])

@@ -14,22 +14,22 @@ use Rattle.machine.specs.Layout.{heldAt, recAt, readRec}
 use Rattle.machine.specs.Sound.{sound}
 use Rattle.store.specs.Seek.{idIn, seek}
 
--- the record that the link at byte `at` leads to, if it leads to one
+-- the record that the link at byte `link` leads to, if it leads to one
 abbrev pub metAt : List ℕ → ℕ → Option Rec
-metAt b at = cond (eqb (getD b at 0) 0) none (some (readRec b (getD b at 0)))
+metAt b link = cond (eqb (getD b link 0) 0) none (some (readRec b (getD b link 0)))
 
--- the place that the link at byte `at` leads to, the row and the record there, and its key
+-- the place that the link at byte `link` leads to, the row and the record there, and its key
 abbrev pub placeAt : List ℕ → ℕ → ℕ
-placeAt b at = getD b at 0
+placeAt b link = getD b link 0
 
 abbrev pub rowIn : List ℕ → ℕ → List ℕ
-rowIn b at = recAt b (placeAt b at)
+rowIn b link = recAt b (placeAt b link)
 
 abbrev pub recIn : List ℕ → ℕ → Rec
-recIn b at = readRec b (placeAt b at)
+recIn b link = readRec b (placeAt b link)
 
 abbrev pub keyIn : List ℕ → ℕ → Key
-keyIn b at = idIn b (placeAt b at)
+keyIn b link = idIn b (placeAt b link)
 
 -- a sound store, of some role
 pub record Sound (b : List ℕ) : Type 0 where
@@ -43,21 +43,21 @@ Receives b = sound roleReceive b ≡ true
 abbrev pub Sends : List ℕ → Type 0
 Sends b = sound roleSend b ≡ true
 
--- in a sound store b of a role, the link at byte `at` is the one that leads to a held record
-pub record HeldAt (role : ℕ) (b : List ℕ) (at : ℕ) : Type 0 where
+-- in a sound store b of a role, the link at byte `link` is the one that leads to a held record
+pub record HeldAt (role : ℕ) (b : List ℕ) (link : ℕ) : Type 0 where
   pub sound : sound role b ≡ true
-  pub some : 0 < placeAt b at
-  pub is : at ≡ seek (keyIn b at) b heldAt
+  pub some : 0 < placeAt b link
+  pub is : link ≡ seek (keyIn b link) b heldAt
 
--- in a sound store b of a role, a search along the held chain ended at the link at byte `at`
-pub record Searched (role : ℕ) (b : List ℕ) (at : ℕ) : Type 0 where
+-- in a sound store b of a role, a search along the held chain ended at the link at byte `link`
+pub record Searched (role : ℕ) (b : List ℕ) (link : ℕ) : Type 0 where
   pub sound : sound role b ≡ true
   pub key : Key
-  pub is : at ≡ seek key b heldAt
+  pub is : link ≡ seek key b heldAt
 
--- in bytes b, the link at byte `at` leads to a place of a record
-pub record Reached (b : List ℕ) (at : ℕ) : Type 0 where
-  pub inside : at < length b
-  pub some : 0 < placeAt b at
-  pub small : placeAt b at ≤ recCount
+-- in bytes b, the link at byte `link` leads to a place of a record
+pub record Reached (b : List ℕ) (link : ℕ) : Type 0 where
+  pub inside : link < length b
+  pub some : 0 < placeAt b link
+  pub small : placeAt b link ≤ recCount
   pub long : storeBytes 0 ≤ length b

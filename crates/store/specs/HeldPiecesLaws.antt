@@ -22,7 +22,8 @@ use Rattle.links.specs.Release.{pieces-around}
 use Rattle.steps.specs.Find.{all-found}
 
 -- the pieces of a record are linked
-pub pieces-linked : (b : List ℕ) (C : ℕ) (r : Rec) → C ≤ mostCells → Walks b r → Few C (map cellPlace (r .cells)) → Linked (link (cellAt b)) (map cellPlace (r .cells))
+pub pieces-linked : (b : List ℕ) (C : ℕ) (r : Rec) → C ≤ mostCells → Walks b r
+    → Few C (map cellPlace (r .cells)) → Linked (link (cellAt b)) (map cellPlace (r .cells))
 pieces-linked b C r m e u =
     subst (Linked (link (cellAt b))) e
     (walk-chain (link (cellAt b)) C (suc mostCells) (first (map cellPlace (r .cells))) (omega arith) (subst (Few C) (sym e) u) .links)
@@ -34,7 +35,8 @@ module _ (role : ℕ) (s : Store) (v : Valid role s) (k : Key) (r : Rec) (e : fo
       omega (
         arith,
         cells-once role s v n,
-        ap (λ (x : List Rec). occurs n (piecePlaces (x ++ s .whole))) (q .is) ∙ ap (λ (x : List Rec). occurs n (piecePlaces x)) (append-assoc (q .before) (r ∷ q .behind) (s .whole))
+        ap (λ (x : List Rec). occurs n (piecePlaces (x ++ s .whole))) (q .is)
+            ∙ ap (λ (x : List Rec). occurs n (piecePlaces x)) (append-assoc (q .before) (r ∷ q .behind) (s .whole))
             ∙ pieces-around (q .before) r (q .behind ++ s .whole) n,
       )
 

@@ -27,7 +27,13 @@ use Rattle.store.specs.SoughtLaws.{Leads, Sought, found-sought, none-sou
 -- a chain of few records that starts at a byte of the head
 leads : (b : List ℕ) (kind at : ℕ) (l : List Rec) → getD b at 0 ≡ first (map recPlace l) → Held (recAt b) (chainRows recPlace (recRow kind) l) → All RecSized l
     → Few recCount (map recPlace l) → Leads b kind at 0 l
-leads b kind at l e h z u = record { from = e ∙ firsts l; rows = subst (Held (recAt b)) (chain-rows recPlace (recRow kind) l) h; fine = fine l z (few-inside recCount (map recPlace l) u) }
+leads b kind at l e h z u =
+    record {
+      from = e ∙ firsts l;
+      rows = subst (Held (recAt b)) (chain-rows recPlace (recRow kind) l) h;
+      fine =
+          fine l z (few-inside recCount (map recPlace l) u);
+    }
   where
     firsts : (l : List Rec) → first (map recPlace l) ≡ lead 0 (map recPlace l)
     firsts [] = refl
@@ -71,7 +77,8 @@ module _ (role : ℕ) (s : Store) (v : Valid role s) (b : List ℕ) (rep : Rep s
   pub held-none : (k : Key) → found k (s .held) ≡ none → Sought b kind k heldAt 0 (s .held)
   held-none k e = none-sought b kind k heldAt (s .held) held-leads (short (s .held) held-once) e
 
-  pub whole-found : (k : Key) (r : Rec) → found k (s .whole) ≡ some r → (q : Split sameKey recKey k r (s .whole)) → Sought b kindWhole k wholeAt (r .place) (q .before)
+  pub whole-found : (k : Key) (r : Rec) → found k (s .whole) ≡ some r → (q : Split sameKey recKey k r (s .whole))
+      → Sought b kindWhole k wholeAt (r .place) (q .before)
   whole-found k r e q = found-sought b kindWhole k wholeAt r (s .whole) whole-leads (short (s .whole) whole-once) e q
 
   pub whole-none : (k : Key) → found k (s .whole) ≡ none → Sought b kindWhole k wholeAt 0 (s .whole)

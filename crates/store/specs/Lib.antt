@@ -21,3 +21,4 @@ pub mod ReleasedLaws
 pub mod Dropping
 pub mod DroppedLaws
 pub mod EstablishedLaws
+pub mod SearchLaws

@@ -14,7 +14,8 @@ use Rattle.machine.specs.Limits.{recCount, recBytes}
 use Rattle.machine.specs.Codes.{heldKind}
 use Rattle.machine.specs.Values.{Rec, Key, sameKey}
 use Rattle.machine.specs.Chains.{first}
-use Rattle.machine.specs.Layout.{heldAt, idAt, idWidth, recOff, recPlace, recRow, recAt, slotsAt, firstCellAt, labelOf, sendingOf, recOf, recChain, readCells, readRec, decode}
+use Rattle.machine.specs.Layout.{heldAt, idAt, idWidth, recOff, recPlace, recRow, recAt, slotsAt}
+use Rattle.machine.specs.Layout.{firstCellAt, labelOf, sendingOf, recOf, recChain, readCells, readRec, decode}
 use Rattle.machine.specs.Sound.{sound}
 use Rattle.machine.specs.Valid.{RecSized, Valid}
 use Rattle.machine.specs.Receive.{recKey, found}
@@ -133,7 +134,8 @@ module _ (role : ℕ) (b : List ℕ) (y : Bytes b) (at : ℕ) (h : HeldAt role b
 
   pub here-within : (0 < placeAt b at) × (placeAt b at ≤ recCount)
   unfolding recOf
-  here-within = Unheld.within role (decode b) (valid role b y (h .sound)) b (rep role b y (h .sound)) (here-split .before) r (here-split .behind) (here-split .is)
+  here-within =
+      Unheld.within role (decode b) (valid role b y (h .sound)) b (rep role b y (h .sound)) (here-split .before) r (here-split .behind) (here-split .is)
 
   -- its row
   pub here-row : recAt b (placeAt b at) ≡ recRow (heldKind (decode b .setup .role)) (first (map recPlace (here-split .behind))) r
@@ -154,7 +156,8 @@ module _ (role : ℕ) (b : List ℕ) (y : Bytes b) (at : ℕ) (h : HeldAt role b
   here-link = subst (RecLink b) (sym (h .is)) (seek-link (keyIn b at) b (suc recCount) heldAt here-links (here-links .held))
 
   pub here-reached : Reached b at
-  here-reached = record { inside = omega (arith, here-link .inside, here-links .long); some = h .some; small = here-link .small; long = omega (arith, here-links .long) }
+  here-reached =
+      record { inside = omega (arith, here-link .inside, here-links .long); some = h .some; small = here-link .small; long = omega (arith, here-links .long) }
 
 -- ---- its fields
 

@@ -8,7 +8,7 @@ use mathlib.Core.Option.{Option, none}
 use lib.ListN.{length, getD, replicate, length-append, length-replicate}
 use lib.Dec.{ltb}
 use borrow.Author.Tests.{lt-ltb}
-use Rattle.octets.specs.Octets.{put, be, capacity, Bytes}
+use Rattle.octets.specs.Octets.{put, be, Bytes}
 use Rattle.octets.specs.PartsLaws.{getD-put-before, length-put, more}
 use Rattle.octets.specs.NumbersLaws.{length-be}
 use Rattle.machine.specs.Limits.{recBytes, largestTopic, slotsOf}
@@ -134,17 +134,12 @@ module _ (kind cell : ℕ) (h : Label) (z : FieldsFit h) (created end : ℕ) whe
 
 -- ---- stores
 
--- a head that fits, of bytes
-pub head-fine : (h : Label) → FieldsFit h → h .reply ≤ 1 → Bytes (h .id) → Bytes (h .source) → Bytes (h .destination) → Bytes (h .topic) → LabelFine h
-unfolding capacity
-head-fine h z r i s d t = record {
-  sized = record { id = (z .id, i); source = (z .source, s); destination = (z .destination, d); total = omega (arith, z .total); topic = (z .topic, t) };
-  reply = r;
-  total = z .total;
-}
+-- a label that a record can have has fields of their widths
+pub fine-fields : {h : Label} → LabelFine h → FieldsFit h
+fine-fields f = record { id = f .sized .id .0; source = f .sized .source .0; destination = f .sized .destination .0; total = f .total; topic = f .sized .topic .0 }
 
 -- an arriving record in a sound store
-module _ (b : List ℕ) (y : Bytes b) (h : Label) (g : Ready b h) (fine : LabelFine h) where
+module _ (b : List ℕ) (y : Bytes b) (h : Label) (g : Ready b h) where
   abbrev s : Store
   s = decode b
 
@@ -167,16 +162,16 @@ module _ (b : List ℕ) (y : Bytes b) (h : Label) (g : Ready b h) (fine : LabelF
     valid : Valid roleReceive (initAt none h s)
     valid =
         subst (λ (o : Option Rec). Valid roleReceive (initAt o h s)) (g .held)
-        (init-valid h s (g .whole) (ap (λ (o : Option Rec). isSome o || ltb 0 (length (s .free))) (g .held) ∙ ap (λ (l : List ℕ). ltb 0 (length l)) is ∙ lt-ltb 0 (length (q ∷ qs)) (omega arith)) fine v)
+        (init-valid h s (g .whole) (ap (λ (o : Option Rec). isSome o || ltb 0 (length (s .free))) (g .held) ∙ ap (λ (l : List ℕ). ltb 0 (length l)) is ∙ lt-ltb 0 (length (q ∷ qs)) (omega arith)) (g .fine) v)
 
     encoded : openedWith kindArriving (started (getD b freeAt 0) h) b ≡ encode (initAt none h s)
     encoded =
         (λ i. put (put b (recOff (at i)) (recRow kindArriving (head-byte roleReceive s v b rep heldAt (omega arith) i) (started (at i) h))) freeAt (getD b (recOff (at i)) 0 ∷ at i ∷ []))
         ∙ (λ i. put (put b (recOff q) (recRow (sym (ap heldKind (v .inRole)) i) (first (map recPlace (s .held))) (started q h))) freeAt (behind i ∷ q ∷ []))
-        ∙ Encodes.init-encode roleReceive b y (g .sound) q qs is h (fine .sized) valid
+        ∙ Encodes.init-encode roleReceive b y (g .sound) q qs is h (g .fine .sized) valid
 
   pub ready-opened : (b′ : List ℕ) → b′ ≡ openedRow kindArriving 0 h 0 0 b → b′ ≡ encode (initAt none h s)
-  ready-opened b′ o = o ∙ open-chain kindArriving 0 h (g .fits) 0 0 b (g .free) [] refl ∙ go (s .free) refl
+  ready-opened b′ o = o ∙ open-chain kindArriving 0 h (fine-fields (g .fine)) 0 0 b (g .free) [] refl ∙ go (s .free) refl
     where
       go : (l : List ℕ) → s .free ≡ l → openedWith kindArriving (started (getD b freeAt 0) h) b ≡ encode (initAt none h s)
       go [] e = absurd (omega (arith, g .free .some, head-byte roleReceive s v b rep freeAt (omega arith), ap first e))

@@ -1,18 +1,20 @@
 -- What opening a record writes, on bytes: its row behind the link, then the link and the head's first two bytes.
 use Prim.Native.Nat.{ℕ, suc, _+_, _-_, _≤_, _<_}
 use mathlib.Core.Path.{_≡_}
-use mathlib.Core.Bool.{Bool, true}
+use mathlib.Core.Bool.{true}
 use mathlib.Core.List.{List, [], _∷_, _++_}
 use mathlib.Core.Option.{none}
 use lib.ListN.{length, getD, replicate}
 use Rattle.octets.specs.Octets.{put, be}
 use Rattle.octets.specs.Bools.{one}
+use Rattle.packet.specs.declared.label.Label as carried
 use Rattle.machine.specs.Limits.{longest, largestTopic, recCount, storeBytes, slotsOf}
 use Rattle.machine.specs.Codes.{roleReceive, stateInit}
 use Rattle.machine.specs.Values.{Label, Cell, Rec, keyOf}
 use Rattle.machine.specs.Layout.{freeAt, heldAt, idWidth, addressWidth, numberWidth, recOff, recRow, decode}
 use Rattle.machine.specs.Sound.{sound}
 use Rattle.machine.specs.Receive.{found}
+use Rattle.steps.specs.Init.{LabelFine}
 
 -- a record is free
 pub record Openable (b : List ℕ) : Type 0 where
@@ -26,9 +28,9 @@ opened b =
     put (put b (recOff (getD b freeAt 0)) (getD b heldAt 0 ∷ []))
     freeAt (getD b (recOff (getD b freeAt 0)) 0 ∷ getD b freeAt 0 ∷ [])
 
--- what an init says
-abbrev pub newLabel : List ℕ → List ℕ → List ℕ → Bool → ℕ → List ℕ → Label
-newLabel id source destination reply total topic = record { id = id; source = source; destination = destination; reply = one reply; total = total; topic = topic }
+-- what an init says, as the code carries it, with its topic
+abbrev pub newLabel : carried.Label → List ℕ → Label
+newLabel l topic = record { id = l .id; source = l .source; destination = l .destination; reply = one (l .reply); total = l .total; topic = topic }
 
 -- fields of a new record that have their widths
 pub record FieldsFit (h : Label) : Type 0 where
@@ -74,4 +76,4 @@ pub record Ready (b : List ℕ) (h : Label) : Type 0 where
   pub free : Openable b
   pub held : found (keyOf h) (decode b .held) ≡ none
   pub whole : found (keyOf h) (decode b .whole) ≡ none
-  pub fits : FieldsFit h
+  pub fine : LabelFine h

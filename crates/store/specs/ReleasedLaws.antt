@@ -27,7 +27,8 @@ module _ (p : ℕ) (b : List ℕ) (some : 0 < p) (small : p ≤ recCount) (long 
   kept-row = getD-put-before b (recOff p) row (omega (arith, fits)) freeCellsAt (omega arith)
 
   kept-head : getD (recFree p b) freeCellsAt 0 ≡ getD (put b (recOff p) row) freeCellsAt 0
-  kept-head = getD-put-after (put b (recOff p) row) freeAt (p ∷ []) (omega (arith, length-put b (recOff p) row (omega (arith, fits)), long)) freeCellsAt (omega arith)
+  kept-head =
+      getD-put-after (put b (recOff p) row) freeAt (p ∷ []) (omega (arith, length-put b (recOff p) row (omega (arith, fits)), long)) freeCellsAt (omega arith)
 
   -- a record that is freed leaves the free cells
   pub free-kept : getD (recFree p b) freeCellsAt 0 ≡ getD b freeCellsAt 0
@@ -40,7 +41,9 @@ module _ (p : ℕ) (b : List ℕ) (some : 0 < p) (small : p ≤ recCount) (long 
 pub unlink-loose : (at x : ℕ) (b : List ℕ) → Droppable at b → Releasable (getD b at 0) (getD b (recOff (getD b at 0) + firstCellAt) 0) (put b at (x ∷ []))
 unlink-loose at x b h = record {
   some = h .some;
-  small = h .link .small;
-  chain = chain-put (getD b (recOff (getD b at 0) + firstCellAt) 0) b at (x ∷ []) (links-chain b (getD b (recOff (getD b at 0) + firstCellAt) 0) (h .links) (h .links .firsts (getD b at 0) (h .some) (h .link .small)))
-      (omega (arith, h .link .inside)) (byte-other b at x freeCellsAt (omega (arith, h .link .inside, h .links .long)) (h .link .noFree));
+  small = h .led .small;
+  chain =
+      chain-put (getD b (recOff (getD b at 0) + firstCellAt) 0) b at (x ∷ [])
+      (links-chain b (getD b (recOff (getD b at 0) + firstCellAt) 0) (h .links) (h .links .firsts (getD b at 0) (h .some) (h .led .small)))
+      (omega (arith, h .led .inside)) (byte-other b at x freeCellsAt (omega (arith, h .led .inside, h .links .long)) (h .led .noFree));
 }

@@ -8,26 +8,26 @@ use Rattle.machine.specs.Layout.{freeAt, freeCellsAt, firstCellAt, recOff, free
 use Rattle.links.specs.Links.{Links, RecLink}
 use Rattle.store.specs.Clearing.{clearFrom, Clearable}
 
--- the record at place p is free, in front of the free records
+-- the record at a place is free, in front of the free records
 abbrev pub recFree : ℕ → List ℕ → List ℕ
-recFree p b = put (put b (recOff p) (freeRow recBytes (getD b freeAt 0) p)) freeAt (p ∷ [])
+recFree place b = put (put b (recOff place) (freeRow recBytes (getD b freeAt 0) place)) freeAt (place ∷ [])
 
--- the record at place p, whose first cell is at `first`, is released
+-- the record at a place, whose first cell is at `first`, is released
 abbrev pub released : ℕ → ℕ → List ℕ → List ℕ
-released p first b = clearFrom first (recFree p b)
+released place first b = clearFrom first (recFree place b)
 
--- the record whose link stands at byte `at` leaves its chain and is released
+-- the record whose link stands at byte `link` leaves its chain and is released
 abbrev pub unlinked : ℕ → List ℕ → List ℕ
-unlinked at b = released (getD b at 0) (getD b (recOff (getD b at 0) + firstCellAt) 0) (put b at (getD b (recOff (getD b at 0)) 0 ∷ []))
+unlinked link b = released (getD b link 0) (getD b (recOff (getD b link 0) + firstCellAt) 0) (put b link (getD b (recOff (getD b link 0)) 0 ∷ []))
 
--- a record is at place p; links of cells are in range
-pub record Releasable (p first : ℕ) (b : List ℕ) : Type 0 where
-  pub some : 0 < p
-  pub small : p ≤ recCount
+-- a record is at a place; links of cells are in range
+pub record Releasable (place first : ℕ) (b : List ℕ) : Type 0 where
+  pub some : 0 < place
+  pub small : place ≤ recCount
   pub chain : Clearable first (getD b freeCellsAt 0) b
 
--- a link to a record stands at byte `at`
-pub record Droppable (at : ℕ) (b : List ℕ) : Type 0 where
+-- a link to a record stands at byte `link`
+pub record Droppable (link : ℕ) (b : List ℕ) : Type 0 where
   pub links : Links b
-  pub link : RecLink b at
-  pub some : 0 < getD b at 0
+  pub some : 0 < getD b link 0
+  pub led : RecLink b link

@@ -51,7 +51,8 @@ module _ (b : List ℕ) (y : Bytes b) (at : ℕ) (h : HeldAt roleSend b at) wher
   small : (r .sending .state ≤ stateAborted) × (r .sending .timedOut ≤ 1)
   small = held-small (keyIn b at) r s (held-here roleSend b y at h) (valid roleSend b y (h .sound))
 
-  restated-encode : (state out : ℕ) → state ≤ stateAborted → out ≤ 1 → restated (recOff p) state out b ≡ encode (changed (remarked state out (r .cells) r) (s .freeCells) s)
+  restated-encode : (state out : ℕ) → state ≤ stateAborted → out ≤ 1
+      → restated (recOff p) state out b ≡ encode (changed (remarked state out (r .cells) r) (s .freeCells) s)
   unfolding recOf
   restated-encode state out a o =
       let e = held-here roleSend b y at h in
@@ -62,7 +63,8 @@ module _ (b : List ℕ) (y : Bytes b) (at : ℕ) (h : HeldAt roleSend b at) wher
       let w : Wrote headBytes recBytes p (put (recAt b p) stateAt (state ∷ out ∷ [])) b (restated (recOff p) state out b) =
       write-field headBytes recBytes p stateAt (state ∷ out ∷ []) b (i .0) (omega (arith, i .0, i .1, rep roleSend b y (h .sound) .size)) (omega arith) in
       Encodes.change-encode roleSend b y (h .sound) (keyIn b at) r e (remarked state out (r .cells) r) refl refl (restated (recOff p) state out b)
-      (subst (λ (x : List ℕ). Wrote headBytes recBytes p x b (restated (recOff p) state out b)) (ap (λ (x : List ℕ). put x stateAt (state ∷ out ∷ [])) (around-row roleSend b y at h) ∙ rec-restated kind next state out r) w)
+      (subst (λ (x : List ℕ). Wrote headBytes recBytes p x b (restated (recOff p) state out b))
+      (ap (λ (x : List ℕ). put x stateAt (state ∷ out ∷ [])) (around-row roleSend b y at h) ∙ rec-restated kind next state out r) w)
       refl (restated-valid (keyIn b at) r s e v state out a o)
 
   -- a change of the record that the link leads to
@@ -70,7 +72,8 @@ module _ (b : List ℕ) (y : Bytes b) (at : ℕ) (h : HeldAt roleSend b at) wher
   unfolding changeAt
   changed-here g = sym (ap (λ (o : Option Rec). changeAt g o s) (held-here roleSend b y at h))
 
-  pub state-set : (state row : ℕ) → state ≤ stateAborted → row ≡ recOff p → restated row state (getD b (row + timedOutAt) 0) b ≡ encode (change (withState state) (keyIn b at) s)
+  pub state-set : (state row : ℕ) → state ≤ stateAborted → row ≡ recOff p
+      → restated row state (getD b (row + timedOutAt) 0) b ≡ encode (change (withState state) (keyIn b at) s)
   state-set state row a e =
       (λ i. restated (e i) state (getD b (e i + timedOutAt) 0) b) ∙ (λ i. restated (recOff p) state (out-is i) b)
       ∙ restated-encode state (r .sending .timedOut) a (small .1) ∙ ap encode (changed-here (withState state))
@@ -78,7 +81,9 @@ module _ (b : List ℕ) (y : Bytes b) (at : ℕ) (h : HeldAt roleSend b at) wher
   over-small : overState (r .sending .state) ≤ stateAborted
   over-small = cases (eqb (r .sending .state) stateInit || eqb (r .sending .state) stateInProgress) (λ e. rw e (omega arith)) (λ e. rw e (small .0))
 
-  pub time-over : (state row : ℕ) → row ≡ recOff p → state ≡ overState (getD b (row + stateAt) 0) → restated row state 1 b ≡ encode (change timedOut (keyIn b at) s)
+  pub time-over : (state row : ℕ) → row ≡ recOff p → state ≡ overState (getD b (row + stateAt) 0)
+      → restated row state 1 b ≡ encode (change timedOut (keyIn b at) s)
   time-over state row e f =
-      (λ i. restated (e i) (f i) 1 b) ∙ (λ i. restated (recOff p) (overState (getD b (e i + stateAt) 0)) 1 b) ∙ (λ i. restated (recOff p) (overState (state-is i)) 1 b)
+      (λ i. restated (e i) (f i) 1 b) ∙ (λ i. restated (recOff p) (overState (getD b (e i + stateAt) 0)) 1 b)
+      ∙ (λ i. restated (recOff p) (overState (state-is i)) 1 b)
       ∙ restated-encode (overState (r .sending .state)) 1 over-small (omega arith) ∙ ap encode (changed-here timedOut)

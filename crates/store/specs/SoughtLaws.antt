@@ -94,7 +94,8 @@ module _ (b : List ℕ) (kind : ℕ) where
       let e = rows-append recPlace (recRow kind) x l m in
       record {
         from = h .from ∙ leads l;
-        rows = held-left (recAt b) (rowsTo recPlace (recRow kind) (lead x (map recPlace m)) l) (rowsTo recPlace (recRow kind) x m) (subst (Held (recAt b)) e (h .rows));
+        rows = held-left (recAt b) (rowsTo recPlace (recRow kind) (lead x (map recPlace m)) l)
+            (rowsTo recPlace (recRow kind) x m) (subst (Held (recAt b)) e (h .rows));
         fine = all-left Fine l m (h .fine);
       }
     where
@@ -136,7 +137,8 @@ module _ (b : List ℕ) (kind : ℕ) where
     sought at x l m h f e = record { is = e; leads = ap (λ (o : ℕ). getD b o 0) e ∙ leads-to at (lead 0 (map recPlace m)) l (front at 0 l m h) ∙ f }
 
     -- the record that has the key, in a chain that the link at `at` leads to
-    pub found-sought : (at : ℕ) (r : Rec) (l : List Rec) → Leads at 0 l → length l ≤ recCount → found k l ≡ some r → (q : Split sameKey recKey k r l) → Sought at (r .place) (q .before)
+    pub found-sought : (at : ℕ) (r : Rec) (l : List Rec) → Leads at 0 l → length l ≤ recCount → found k l ≡ some r
+        → (q : Split sameKey recKey k r l) → Sought at (r .place) (q .before)
     found-sought at r l h s e q =
         let c = subst (Leads at 0) (q .is) h in
         let z = back at 0 (q .before) (r ∷ q .behind) c in

@@ -1,6 +1,6 @@
-// A chain of cells is freed: each cell becomes zero but for its link, and the chain goes in front of the free cells, in its own order.
+// A chain of cells is freed: each cell becomes zero but for its link, and the chain goes in front of the free cells, in its
+// own order.
 
-use crate::place;
 use rows::cell;
 use rows::head::Head;
 ghost use mathlib.Core.Path.{_≡_};
@@ -10,52 +10,54 @@ ghost use Rattle.machine.specs.Layout.{freeCellsAt, cellOff};
 ghost use Rattle.machine.specs.Limits.{mostCells};
 ghost use Rattle.store.specs.Clearing.{orElse, cellFree, freeFrom, clearFrom, Clearable};
 
-// The place p, or end where the chain ends.
-fn or_else(end: u8, p: u8) -> u8
-    ensures { λ r. ⌜ r ≡ orElse end p ⌝ }
+// The link `next`, or `end` where the chain ends.
+fn or_else(end: u8, next: u8) -> u8
+    ensures { λ r. ⌜ r ≡ orElse end next ⌝ }
 {
-    if p == 0 {
+    if next == 0 {
         return end;
     }
-    p
+    next
 }
 
-// The cell at the place p is freed; answers the place that its link led to.
-fn free_cell(store: &mut [u8], p: u8, end: u8) -> u8
-    requires { ⌜ (0 < p) × Clearable p end (now store) ⌝ }
-    ensures { λ r. ⌜ (r ≡ getD (now (store .entry)) (cellOff p) 0) × (now (store .exit) ≡ cellFree end p (now (store .entry))) ⌝ }
+// The cell at a place is freed; answers the place that its link led to.
+fn free_cell(store: &mut [u8], place: usize, end: u8) -> usize
+    requires { ⌜ (0 < place) × Clearable place end (now store) ⌝ }
+    ensures { λ r.
+        let b = now (store .entry) in
+        ⌜ (r ≡ getD b (cellOff place) 0) × (now (store .exit) ≡ cellFree end place b) ⌝ }
 {
-    let row = place::cell_off(p);
+    let row = cell::cell_at(place);
     let next = store[row];
     let link = [or_else(end, next)];
     octets::copy_in(store, row, &link);
     octets::fill(store, row + 1, cell::BYTES - 1, 0);
-    next
+    octets::small(next)
 }
 
-// The cells from the place first on are freed; the last one leads to end.
-fn free_cells(store: &mut [u8], first: u8, end: u8)
+// The cells from the place `first` on are freed; the last one leads to the place `end`.
+fn free_cells(store: &mut [u8], first: usize, end: u8)
     requires { ⌜ Clearable first end (now store) ⌝ }
     ensures { λ _. ⌜ now (store .exit) ≡ freeFrom end (suc mostCells) first (now (store .entry)) ⌝ }
 {
-    let mut p = first;
+    let mut place = first;
     let mut n: usize = 0;
     while n < cell::STEPS {
-        if p == 0 {
+        if place == 0 {
             return;
         }
-        p = free_cell(store, p, end);
+        place = free_cell(store, place, end);
         n += 1;
     }
 }
 
-// The chain of cells that starts at the place first is freed, in front of the free cells.
-pub fn clear(store: &mut [u8], first: u8)
+// The chain of cells that starts at the place `first` is freed, in front of the free cells.
+pub fn clear(store: &mut [u8], first: usize)
     requires { ⌜ Clearable first (getD (now store) freeCellsAt 0) (now store) ⌝ }
     ensures { λ _. ⌜ now (store .exit) ≡ clearFrom first (now (store .entry)) ⌝ }
 {
     let end = store[Head::FREE_CELLS];
     free_cells(store, first, end);
-    let link = [or_else(end, first)];
+    let link = [or_else(end, first as u8)];
     octets::copy_in(store, Head::FREE_CELLS, &link);
 }

@@ -1,6 +1,5 @@
 // A record is found by its id, along a chain.
 
-use crate::place;
 use rows::head::Head;
 use rows::record;
 use rows::record::ID_SIZE;
@@ -16,34 +15,36 @@ ghost use Rattle.machine.specs.Layout.{heldAt, decode};
 ghost use Rattle.store.specs.Seek.{seek};
 ghost use Rattle.store.specs.HeldAt.{Sound};
 
-// Where the link to the record with that id stands, or else the link that ends the chain, from the link at byte at on.
-pub fn find(store: &[u8], at: usize, id: &[u8]) -> usize
-    requires { ⌜ Links (now store) × RecLink (now store) at ⌝ }
-    ensures { λ r. ⌜ r ≡ seek (now (id .entry)) (now (store .entry)) at ⌝ }
+// Where the link to the record with that id stands, or else the link that ends the chain, from the link at byte `link` on.
+pub fn find(store: &[u8], link: usize, id: &[u8]) -> usize
+    requires { ⌜ Links (now store) × RecLink (now store) link ⌝ }
+    ensures { λ r. ⌜ r ≡ seek (now (id .entry)) (now (store .entry)) link ⌝ }
 {
-    let mut link = at;
+    let mut here = link;
     let mut n: usize = 0;
     while n < record::STEPS {
-        let next = store[link];
-        if next == 0 {
-            return link;
+        let place = octets::small(store[here]);
+        if place == 0 {
+            return here;
         }
-        let row = place::rec_off(next);
+        let row = record::record_at(place);
         let a = row + Record::ID;
         let e = a + ID_SIZE;
         if octets::equal(id, &store[a..e]) {
-            return link;
+            return here;
         }
-        link = row;
+        here = row;
         n += 1;
     }
-    link
+    here
 }
 
 // Where the link to the held record with that id stands, or the link that ends the chain.
 pub fn find_held(store: &[u8], id: &[u8]) -> usize
     requires { ⌜ Sound (now store) ⌝ }
-    ensures { λ r. ⌜ (r ≡ seek (now (id .entry)) (now (store .entry)) heldAt) × (r < length (now (store .entry))) ⌝ }
+    ensures { λ r.
+        let b = now (store .entry) in
+        ⌜ (r ≡ seek (now (id .entry)) b heldAt) × (r < length b) ⌝ }
 {
     find(store, Head::HELD, id)
 }
@@ -61,8 +62,8 @@ pub fn is_whole(store: &[u8], id: &[u8]) -> bool
     requires { ⌜ Sound (now store) ⌝ }
     ensures { λ r. ⌜ r ≡ isSome (found (now (id .entry)) (decode (now (store .entry)) .whole)) ⌝ }
 {
-    let at = find(store, Head::WHOLE, id);
-    store[at] > 0
+    let link = find(store, Head::WHOLE, id);
+    store[link] > 0
 }
 
 // Whether a record is free.

@@ -18,36 +18,40 @@ ghost use Rattle.store.specs.Seek.{seek};
 ghost use Rattle.store.specs.HeldAt.{recIn, keyIn, HeldAt, Reached};
 ghost use Rattle.store.specs.Finishing.{finished};
 
-// Where a search of the whole chain ends for the id of the record whose link stands at byte at.
-fn whole_end(store: &[u8], at: usize) -> usize
-    requires { ⌜ Links (now store) × Reached (now store) at ⌝ }
-    ensures { λ r. ⌜ r ≡ seek (keyIn (now (store .entry)) at) (now (store .entry)) wholeAt ⌝ }
+// Where a search of the whole chain ends for the id of the record whose link stands at byte `link`.
+fn whole_end(store: &[u8], link: usize) -> usize
+    requires { ⌜ Links (now store) × Reached (now store) link ⌝ }
+    ensures { λ r.
+        let b = now (store .entry) in
+        ⌜ r ≡ seek (keyIn b link) b wholeAt ⌝ }
 {
-    let a = place::row_at(store, at) + Record::ID;
+    let a = place::row_at(store, link) + Record::ID;
     let e = a + ID_SIZE;
     find::find(store, Head::WHOLE, &store[a..e])
 }
 
-// The record whose link stands at byte at becomes whole, behind the link at byte last.
-fn make_whole(store: &mut [u8], at: usize, last: usize)
-    requires { ⌜ Reached (now store) at × (last < length (now store)) ⌝ }
-    ensures { λ _. ⌜ now (store .exit) ≡ finished at last (now (store .entry)) ⌝ }
+// The record whose link stands at byte `link` becomes whole, behind the link at byte `last`.
+fn make_whole(store: &mut [u8], link: usize, last: usize)
+    requires { ⌜ Reached (now store) link × (last < length (now store)) ⌝ }
+    ensures { λ _. ⌜ now (store .exit) ≡ finished link last (now (store .entry)) ⌝ }
 {
-    let p = store[at];
-    let row = place::rec_off(p);
+    let row = place::row_at(store, link);
     let next = [store[row]];
     let front = [0, place::WHOLE];
-    let link = [p];
-    octets::copy_in(store, at, &next);
+    let end = [store[link]];
+    octets::copy_in(store, link, &next);
     octets::copy_in(store, row, &front);
-    octets::copy_in(store, last, &link);
+    octets::copy_in(store, last, &end);
 }
 
-// The held record whose link stands at byte at becomes whole, last in the whole chain: its own id, which is not whole, leads to the end.
-pub fn finish(store: &mut [u8], at: usize)
-    requires { ⌜ HeldAt roleReceive (now store) at × (isComplete (recIn (now store) at) ≡ true) ⌝ }
-    ensures { λ _. ⌜ now (store .exit) ≡ encode (doneStep (keyIn (now (store .entry)) at) (decode (now (store .entry)))) ⌝ }
+// The held record whose link stands at byte `link` becomes whole, last in the whole chain: its own id, which is not whole,
+// leads to the end.
+pub fn finish(store: &mut [u8], link: usize)
+    requires { ⌜ HeldAt roleReceive (now store) link × (isComplete (recIn (now store) link) ≡ true) ⌝ }
+    ensures { λ _.
+        let b = now (store .entry) in
+        ⌜ now (store .exit) ≡ encode (doneStep (keyIn b link) (decode b)) ⌝ }
 {
-    let last = whole_end(store, at);
-    make_whole(store, at, last);
+    let last = whole_end(store, link);
+    make_whole(store, link, last);
 }

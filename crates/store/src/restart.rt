@@ -2,7 +2,9 @@
 
 use crate::clear;
 use crate::open;
+use crate::open::Times;
 use crate::place;
+use packet::label::Label;
 use rows::record::Record;
 ghost use mathlib.Core.Path.{_≡_};
 ghost use mathlib.Core.Option.{some};
@@ -10,37 +12,21 @@ ghost use Rattle.machine.specs.Codes.{roleReceive};
 ghost use Rattle.machine.specs.Layout.{encode, decode};
 ghost use Rattle.machine.specs.Receive.{initAt};
 ghost use Rattle.store.specs.HeldAt.{recIn, keyIn, HeldAt};
-ghost use Rattle.store.specs.Opening.{newLabel, FieldsFit};
+ghost use Rattle.steps.specs.Init.{LabelFine};
+ghost use Rattle.store.specs.Opening.{newLabel};
 
-// The held record whose link stands at byte at, and whose id is id, starts again.
-pub fn restart(
-    store: &mut [u8],
-    at: usize,
-    id: &[u8],
-    source: &[u8],
-    destination: &[u8],
-    reply: bool,
-    total: u64,
-    topic: &[u8],
-)
-    requires { ⌜ HeldAt roleReceive (now store) at × (now id ≡ keyIn (now store) at) × FieldsFit (newLabel (now id) (now source) (now destination) reply total (now topic)) ⌝ }
-    ensures { λ _. ⌜ now (store .exit) ≡ encode (initAt (some (recIn (now (store .entry)) at)) (newLabel (now (id .entry)) (now (source .entry)) (now (destination .entry)) reply total (now (topic .entry))) (decode (now (store .entry)))) ⌝ }
+// The held record whose link stands at byte at starts again, with what an init of its own key says.
+pub fn restart(store: &mut [u8], at: usize, label: Label, topic: &[u8])
+    requires { ⌜ HeldAt roleReceive (now store) at
+        × (label .id ≡ keyIn (now store) at)
+        × LabelFine (newLabel label (now topic)) ⌝ }
+    ensures { λ _.
+        let b = now (store .entry) in
+        ⌜ now (store .exit) ≡ encode (initAt (some (recIn b at)) (newLabel label (now (topic .entry))) (decode b)) ⌝ }
 {
     let row = place::row_at(store, at);
     let first = store[row + Record::FIRST_CELL];
-    open::put_row(
-        store,
-        row,
-        place::ARRIVING,
-        0,
-        id,
-        source,
-        destination,
-        reply,
-        total,
-        topic,
-        0,
-        0,
-    );
-    clear::clear(store, first);
+    let times = Times { created: 0, end: 0 };
+    open::put_row(store, row, place::ARRIVING, 0, label, topic, times);
+    clear::clear(store, octets::small(first));
 }

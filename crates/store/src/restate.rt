@@ -32,22 +32,26 @@ fn put_state(store: &mut [u8], row: usize, state: u8, out: u8)
     octets::copy_in(store, row + Record::STATE, &marks);
 }
 
-// The held record whose link stands at byte at gets a state.
-pub fn set_state(store: &mut [u8], at: usize, state: u8)
-    requires { ⌜ HeldAt roleSend (now store) at × (state ≤ stateAborted) ⌝ }
-    ensures { λ _. ⌜ now (store .exit) ≡ encode (change (withState state) (keyIn (now (store .entry)) at) (decode (now (store .entry)))) ⌝ }
+// The held record whose link stands at byte `link` gets a state.
+pub fn set_state(store: &mut [u8], link: usize, state: u8)
+    requires { ⌜ HeldAt roleSend (now store) link × (state ≤ stateAborted) ⌝ }
+    ensures { λ _.
+        let b = now (store .entry) in
+        ⌜ now (store .exit) ≡ encode (change (withState state) (keyIn b link) (decode b)) ⌝ }
 {
-    let row = place::row_at(store, at);
+    let row = place::row_at(store, link);
     let out = store[row + Record::TIMED_OUT];
     put_state(store, row, state, out);
 }
 
-// The held record whose link stands at byte at gets the timed-out mark; if its state is not settled, it is aborted.
-pub fn time_out(store: &mut [u8], at: usize)
-    requires { ⌜ HeldAt roleSend (now store) at ⌝ }
-    ensures { λ _. ⌜ now (store .exit) ≡ encode (change timedOut (keyIn (now (store .entry)) at) (decode (now (store .entry)))) ⌝ }
+// The held record whose link stands at byte `link` gets the timed-out mark; if its state is not settled, it is aborted.
+pub fn time_out(store: &mut [u8], link: usize)
+    requires { ⌜ HeldAt roleSend (now store) link ⌝ }
+    ensures { λ _.
+        let b = now (store .entry) in
+        ⌜ now (store .exit) ≡ encode (change timedOut (keyIn b link) (decode b)) ⌝ }
 {
-    let row = place::row_at(store, at);
+    let row = place::row_at(store, link);
     let state = over(store[row + Record::STATE]);
     put_state(store, row, state, 1);
 }

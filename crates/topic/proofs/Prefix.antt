@@ -40,7 +40,8 @@ masked-alike x y k h hx hy =
 one-more : (p q : ℕ) → (eqb (p / 2) (q / 2) && eqb (p % 2) (q % 2)) ≡ eqb p q
 one-more p q =
     iff _ _
-    (λ t. let s = split (eqb (p / 2) (q / 2)) (eqb (p % 2) (q % 2)) t in eq-eqb p q (omega (arith, eqb-true (p / 2) (q / 2) (s .0), eqb-true (p % 2) (q % 2) (s .1))))
+    (λ t. let s = split (eqb (p / 2) (q / 2)) (eqb (p % 2) (q % 2)) t in eq-eqb p q
+    (omega (arith, eqb-true (p / 2) (q / 2) (s .0), eqb-true (p % 2) (q % 2) (s .1))))
     (λ t. let e = eqb-true p q t in both _ _ (eq-eqb _ _ (ap (λ (n : ℕ). n / 2) e)) (eq-eqb _ _ (ap (λ (n : ℕ). n % 2) e)))
 
 -- ---- an address
@@ -104,7 +105,8 @@ module _ (a net : List ℕ) (q : ℕ) (ha : getD a q 0 < 256) (hn : getD net q 0
       ap (inside a net) b ∙ outside a net (8 * (q + 1)) (bits - 8 * (q + 1)) n
 
   -- the bits past the whole bytes decide
-  pub inside-last : (bits : ℕ) → q ≡ bits / 8 → inside a net (8 * q) ≡ true → inside a net bits ≡ eqb (getD a q 0 / 2 ^ (8 - bits % 8)) (getD net q 0 / 2 ^ (8 - bits % 8))
+  pub inside-last : (bits : ℕ) → q ≡ bits / 8 → inside a net (8 * q) ≡ true
+      → inside a net bits ≡ eqb (getD a q 0 / 2 ^ (8 - bits % 8)) (getD net q 0 / 2 ^ (8 - bits % 8))
   inside-last bits e h =
       let b : bits ≡ 8 * q + bits % 8 = omega arith in
       ap (inside a net) b ∙ inside-bits (bits % 8) (omega arith) ∙ rw h

@@ -9,7 +9,8 @@ use lib.Dec.{leb, ltb}
 use borrow.Author.Tests.{lt-ltb, le-ltb, leb-true, ltb-true}
 use Rattle.octets.specs.BoolsLaws.{cases, split}
 use Rattle.octets.specs.Lists.{all}
-use Rattle.topic.specs.Book.{Entry, subnetBytes, subnetAt, subnetsAt, countAt, subnetsOf, endAt, entryAt, starts, entriesFrom, uncut, allFit, distinct, wellFormed}
+use Rattle.topic.specs.Book.{Entry, subnetBytes, subnetAt, subnetsAt, countAt, subnetsOf, endAt}
+use Rattle.topic.specs.Book.{entryAt, starts, entriesFrom, uncut, allFit, distinct, wellFormed}
 
 -- ---- what a test leaves of a conjunction, a disjunction and a choice whose value w is known
 

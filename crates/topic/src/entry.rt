@@ -1,5 +1,5 @@
-// One entry of a rule book, by the place `at` where it starts: topic length (1), topic, subnet count (1), and subnets of 17 bytes, an
-// address (16) and prefix bits (1).
+// One entry of a rule book, by the place `at` where it starts: topic length (1), topic, subnet count (1), and subnets of
+// 17 bytes, an address (16) and prefix bits (1).
 use crate::subnet::ADDRESS_BYTES;
 use crate::subnet::PREFIX_MOST;
 use crate::subnet::contains;

@@ -39,7 +39,8 @@ fn agree(a: &[u8], net: &[u8], bits: u8) -> bool
     alike(a[whole], net[whole], rest)
 }
 
-// Whether `source` lies in the subnet of `net` and `bits`. A net that has not 16 bytes, or more than 128 bits, is no subnet and holds nobody.
+// Whether `source` lies in the subnet of `net` and `bits`. A net that has not 16 bytes, or more than 128 bits, is no subnet
+// and holds nobody.
 pub fn contains(net: &[u8], bits: u8, source: &[u8; 16]) -> bool
     ensures { λ r. ⌜ r ≡ containsOf (now (net .entry)) bits (now (source .entry)) ⌝ }
 {

@@ -95,7 +95,8 @@ fn packets() {
     let to = [0xbbu8; 16];
     let id = [1, 2, 3, 4, 5, 6, 7, 8];
     let mut run = [0xeeu8; 100];
-    packet::run::put_init(&mut run, 3, &from, &to, &id, true, 32500, b"duct");
+    let label = packet::label::labelled(&id, &from, &to, true, 32500);
+    packet::run::put_init(&mut run, 3, label, b"duct");
     write_hex(&run);
     let mut run = [0xeeu8; 100];
     packet::run::put_chunk(&mut run, 3, &from, &to, &id, 24, 31200, b"airflow");
@@ -118,7 +119,8 @@ fn longest_topic() {
     let id = [1, 2, 3, 4, 5, 6, 7, 8];
     let topic = [0x74u8; 255];
     let mut run = [0xeeu8; 320];
-    packet::run::put_init(&mut run, 3, &from, &to, &id, false, 0, &topic);
+    let label = packet::label::labelled(&id, &from, &to, false, 0);
+    packet::run::put_init(&mut run, 3, label, &topic);
     write_hex(&run);
 }
 

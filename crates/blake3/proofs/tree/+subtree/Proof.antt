@@ -47,8 +47,18 @@ module _ (s : List ℕ) (p : ℕ) (h : Left (length s) p) where
 pub +subtree-spec : {M : Type 1} → statement M
 +subtree-spec =
     close μ
-    λ n. subtree-lts.spec
-    (chunk-node-reads.Asked, chunk-node-reads.Learnt, left-reads.Asked, left-reads.Learnt, and 1 subtree-kinds.ps (falls 1 subtree-kinds.ps _<_ μ n) subtree.Pre, subtree.Post, chaining-reads.Asked, chaining-reads.Learnt, parent-node-reads.Asked, parent-node-reads.Learnt)
+    λ n. subtree-lts.spec (
+      chunk-node-reads.Asked,
+      chunk-node-reads.Learnt,
+      left-reads.Asked,
+      left-reads.Learnt,
+      and 1 subtree-kinds.ps (falls 1 subtree-kinds.ps _<_ μ n) subtree.Pre,
+      subtree.Post,
+      chaining-reads.Asked,
+      chaining-reads.Learnt,
+      parent-node-reads.Asked,
+      parent-node-reads.Learnt,
+    )
     (and 1 subtree-kinds.ps (is 1 subtree-kinds.ps μ n) subtree.Pre)
     subtree.Post
     (λ c κs. c .if1 .taken)
@@ -70,6 +80,9 @@ pub +subtree-spec : {M : Type 1} → statement M
     let k = c .before .before .before .before .before .before .before .left in
     let p = k .result in
     c .parent-node .ensures
-    ∙ (λ i. parentNode (g .key) (g .mode) ((c .before .before .before .before .chaining .ensures ∙ ap chaining (c .before .before .before .before .before .subtree .ensures)) i)
-    ((c .before .chaining2 .ensures ∙ ap chaining (c .before .before .subtree2 .ensures ∙ ap (λ (x : List ℕ). node (g .key) (g .mode) x (g .t + p / 1024)) (back-is (g .s .now) p (k .ensures)))) i))
+    ∙ (λ i. parentNode (g .key) (g .mode)
+    ((c .before .before .before .before .chaining .ensures ∙ ap chaining (c .before .before .before .before .before .subtree .ensures)) i)
+    ((c .before .chaining2 .ensures
+    ∙ ap chaining (c .before .before .subtree2 .ensures
+    ∙ ap (λ (x : List ℕ). node (g .key) (g .mode) x (g .t + p / 1024)) (back-is (g .s .now) p (k .ensures)))) i))
     ∙ sym (node-parent (g .key) (g .mode) (g .s .now) (g .t) p (k .ensures)))

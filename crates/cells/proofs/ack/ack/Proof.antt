@@ -19,19 +19,22 @@ spot-requires c κs =
 
 -- the cell that is read
 cell-is : (c : tie.After-small) → let start = c .before .before .before .before .before .before .before in
-    c .small .result ≡ getD (start .args .store .now) (spotIn (start .args .store .now) (placeAt (start .args .store .now) (start .args .at)) (start .args .index)) 0
+    c .small .result ≡ getD (start .args .store .now)
+    (spotIn (start .args .store .now) (placeAt (start .args .store .now) (start .args .link)) (start .args .index)) 0
 cell-is c =
     let spot = c .before .before in
     let first = spot .before .before in
     let start = first .before .before .before in
     let b = start .args .store .now in
-    c .small .ensures .0 ∙ ap (λ (o : ℕ). getD b o 0) (spot .spot .ensures .0 ∙ ap (λ (o : ℕ). spotFrom b 46 o (start .args .index)) (first .first-link .ensures .0))
+    c .small .ensures .0 ∙ ap (λ (o : ℕ). getD b o 0)
+    (spot .spot .ensures .0 ∙ ap (λ (o : ℕ). spotFrom b 46 o (start .args .index)) (first .first-link .ensures .0))
 
 mark-requires : tie.Need-mark-requires
 mark-requires c κs =
     let known = c .before .before .before .before .before .before .before in
     let start = known .before in
-    subst (CellIn (start .args .store .now)) (sym (cell-is (c .before))) (acked-cell _ _ _ (λ i. known .slice-known .given i .fits) (start .pre .0) (start .pre .1))
+    subst (CellIn (start .args .store .now)) (sym (cell-is (c .before)))
+    (acked-cell _ _ _ (λ i. known .slice-known .given i .fits) (start .pre .0) (start .pre .1))
 
 -- what is written there, said of that cell
 written : (b b′ : List ℕ) (k cell state : ℕ) → k ≡ cell → b′ ≡ remarked b k 0 state → state ≡ pieceAcked → b′ ≡ remarked b cell 0 pieceAcked

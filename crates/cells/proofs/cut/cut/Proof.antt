@@ -1,7 +1,6 @@
 -- The invariant: what is left of the data, laid into what is left of the free cells, gives the whole. Assumes nothing.
 use Prim.Native.Nat.{_-_}
 use native.Mathlib.Omega.{arith}
-use mathlib.Core.Path.{refl}
 use lib.ListN.{length}
 use Rattle.cells.proofs.Cuts.{Cutting, Cuttable, cut-head, cut-start, cut-few, cut-end, cut-cell, cut-on}
 use borrow.Author.Needs.{needs}
@@ -26,52 +25,41 @@ given c =
       room = start .pre .2;
     }
 
+-- the same in the loop
+again : (c : tie.At-loop Inv-loop μ-loop) → Cuttable (c .before .before .before .before .args .store .now) (c .before .before .before .before .args .bytes .now)
+again c = given (c .before .before)
+
 slice-read-free : tie.Need-slice-read-free Inv-loop μ-loop
-slice-read-free c = cut-head _ _ (given (c .before))
+slice-read-free c = cut-head (given (c .before))
 
 loop-holds : tie.Need-loop-holds Inv-loop μ-loop
-loop-holds c = cut-start _ _ (given (c .before))
-
-sub-lay : tie.Need-sub-lay Inv-loop μ-loop
-sub-lay c = omega arith
-
-part-lay-start : tie.Need-part-lay-start Inv-loop μ-loop
-part-lay-start c = omega arith
-
-part-lay-end : tie.Need-part-lay-end Inv-loop μ-loop
-part-lay-end c = omega arith
+loop-holds c = cut-start (given (c .before))
 
 lay-requires : tie.Need-lay-requires Inv-loop μ-loop
 lay-requires c κs =
-    let loop = c .before .before .before in
-    cut-cell _ _ (given (loop .before .before)) _ _ _ _ (loop .loop .inv) (c .before .before .loop-test .taken)
+    let small = c .before in
+    let test = small .before .before in
+    let loop = test .before in
+    cut-cell (again loop) (loop .loop .inv) (test .loop-test .taken) (small .small .ensures .0)
 
 add-index : tie.Need-add-index Inv-loop μ-loop
 add-index c =
-    let loop = c .before .before .before .before .before .before in
-    let few = cut-few _ _ (given (loop .before .before)) _ _ _ _ (loop .loop .inv) in
+    let loop = c .before .before .before .before .before .before .before in
+    let few = cut-few (again loop) (loop .loop .inv) in
     omega arith
-
-add-at : tie.Need-add-at Inv-loop μ-loop
-add-at c = omega arith
-
-loop-less : tie.Need-loop-less Inv-loop μ-loop
-loop-less c = omega arith
 
 loop-again : tie.Need-loop-again Inv-loop μ-loop
 loop-again c =
     let lay = c .before .before in
-    let test = lay .before .before .before in
+    let small = lay .before .before in
+    let test = small .before .before in
     let loop = test .before in
-    cut-on _ _ (given (loop .before .before)) _ _ _ _ (loop .loop .inv) (test .loop-test .taken) _ _ _ refl (lay .lay .ensures .0) (lay .lay .ensures .1)
-
-slice-aggregate-copy-in : tie.Need-slice-aggregate-copy-in Inv-loop μ-loop
-slice-aggregate-copy-in c = search needs
+    cut-on (again loop) (loop .loop .inv) (test .loop-test .taken) (small .small .ensures .0) (lay .lay .ensures .0) (lay .lay .ensures .1)
 
 copy-in-requires : tie.Need-copy-in-requires Inv-loop μ-loop
 copy-in-requires c κs =
     let loop = c .before .before .before in
-    let label = cut-head _ _ (given (loop .before .before)) in
+    let head = cut-head (again loop) in
     omega (arith, loop .loop .inv .long)
 
 same-length : tie.Need-same-length Inv-loop μ-loop
@@ -82,9 +70,10 @@ returns c =
     let copy = c .before .before in
     let test = copy .before .before .before in
     let loop = test .before in
-    cut-end _ _ (given (loop .before .before)) _ _ _ _ (loop .loop .inv) (test .loop-test .left) _ (copy .copy-in .ensures)
+    cut-end (again loop) (loop .loop .inv) (test .loop-test .left) (copy .copy-in .ensures)
 
 pub cut-spec : {M : Type 1} → statement M
 cut-spec =
     tie.close
-    (tie.spec Inv-loop μ-loop slice-read-free loop-holds sub-lay part-lay-start part-lay-end lay-requires add-index add-at loop-less loop-again slice-aggregate-copy-in copy-in-requires same-length returns)
+    (tie.spec Inv-loop μ-loop slice-read-free loop-holds (λ c κs. search needs) (λ c. omega arith) (λ c. omega arith) (λ c. omega arith)
+    lay-requires add-index (λ c. omega arith) (λ c. omega arith) loop-again (λ c. search needs) copy-in-requires same-length returns)

@@ -5,7 +5,7 @@ use mathlib.Core.Bool.{false}
 use lib.ListN.{length, getD}
 use Rattle.links.specs.Links.{Links}
 use Rattle.machine.specs.Layout.{freeCellsAt}
-use Rattle.cells.specs.InPlace.{spotIn, holdsIndex, chunked, PieceFits}
+use Rattle.cells.specs.InPlace.{holdsIndex, chunked, Spot, PieceFits}
 use Rattle.cells.specs.OfHeldLaws.{here-inside}
 use Rattle.cells.specs.ChunkLaws.{put-is, put-asks}
 use borrow.Author.Needs.{needs}
@@ -21,11 +21,14 @@ put-in-requires : tie.Need-put-in-requires
 put-in-requires c κs =
     let shared = c .before .before .before in
     let start = shared .before .before in
-    let b = start .args .store .now in
-    let i = start .args .index in
-    let n = length (start .args .bytes .now) in
-    subst (λ (k : ℕ). Links b × PieceFits k i n × (holdsIndex b (spotIn b k i) i ≡ false → 0 < getD b freeCellsAt 0)) (sym (c .before .small .ensures .0))
-    (put-asks b _ i (start .args .bytes .now) (λ j. shared .before .slice-known .given j .fits) (start .pre .0) (start .pre .3, λ j. shared .shared-slice-known .given j .fits) (start .pre .1) (start .pre .2))
+    let a = start .args in
+    let b = a .store .now in
+    let p = start .pre in
+    let asks = put-asks b _ (a .index) (a .bytes .now) (λ j. shared .before .slice-known .given j .fits)
+    (p .0) (p .4, λ j. shared .shared-slice-known .given j .fits) (p .2) (p .3) in
+    subst (λ (k : ℕ). Links b × Spot b k (a .index) (a .spot) × PieceFits k (a .index) (length (a .bytes .now))
+    × (holdsIndex b (a .spot) (a .index) ≡ false → 0 < getD b freeCellsAt 0)) (sym (c .before .small .ensures .0))
+    (asks .0, p .1, asks .1, λ e. asks .2 (ap (λ (o : ℕ). holdsIndex b o (a .index)) (sym (p .1 .is)) ∙ e))
 
 returns : tie.Need-returns
 returns c =
@@ -33,11 +36,11 @@ returns c =
     let small = put .before .before in
     let shared = small .before .before in
     let start = shared .before .before in
-    let b = start .args .store .now in
-    let i = start .args .index in
-    let bytes = start .args .bytes .now in
-    put .put-in .ensures ∙ ap (λ (k : ℕ). chunked b k i bytes) (small .small .ensures .0)
-    ∙ put-is b _ i bytes (λ j. shared .before .slice-known .given j .fits) (start .pre .0) (start .pre .3, λ j. shared .shared-slice-known .given j .fits) (start .pre .1) (start .pre .2)
+    let a = start .args in
+    let p = start .pre in
+    put .put-in .ensures ∙ ap (λ (k : ℕ). chunked (a .store .now) k (a .index) (a .bytes .now)) (small .small .ensures .0)
+    ∙ put-is _ _ (a .index) (a .bytes .now) (λ j. shared .before .slice-known .given j .fits) (p .0)
+    (p .4, λ j. shared .shared-slice-known .given j .fits) (p .2) (p .3)
 
 pub put-piece-spec : {M : Type 1} → statement M
 put-piece-spec = tie.close (tie.spec slice-read-small (λ c κs. search needs) put-in-requires (λ c. search needs) returns)

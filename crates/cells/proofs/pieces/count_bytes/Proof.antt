@@ -1,23 +1,24 @@
 -- Assumes nothing.
-use Prim.Native.Nat.{ℕ}
-use mathlib.Core.Path.{sym, ap, _∙_}
+use mathlib.Core.Path.{ap, _∙_}
 use Rattle.machine.specs.Sound.{sizes}
-use Rattle.machine.specs.Layout.{readCells}
-use Rattle.cells.specs.OfHeldLaws.{cells-here, here-links}
-use borrow.Author.Needs.{needs}
+use Rattle.store.specs.MetLaws.{here-reached}
+use Rattle.cells.specs.OfHeldLaws.{cells-here, first-inside, here-links}
 use Rattle.cells.proofs.pieces.count_bytes.Statement.{statement}
 use Rattle.cells.proofs.pieces.count_bytes.Tie as tie
+
+first-cell-requires : tie.Need-first-cell-requires
+first-cell-requires c κs = here-reached _ _ (λ i. c .shared-slice-known .given i .fits) _ (c .before .pre .1)
 
 total-requires : tie.Need-total-requires
 total-requires c κs =
     let known = c .before in
-    (here-links _ _ (λ i. known .shared-slice-known .given i .fits) _ (known .before .pre .1), c .first-cell .ensures .1)
+    let held = known .before .pre .1 in (
+      here-links _ _ (λ i. known .shared-slice-known .given i .fits) _ held,
+      first-inside _ _ (λ i. known .shared-slice-known .given i .fits) _ held (c .first-cell .ensures),
+    )
 
 returns : tie.Need-returns
-returns c =
-    let start = c .before .before .before in
-    let b = start .args .store .now in
-    c .total .ensures ∙ ap (λ (x : ℕ). sizes (readCells b x)) (c .before .first-cell .ensures .0) ∙ ap sizes (sym (cells-here b (start .args .at)))
+returns c = c .total .ensures ∙ ap sizes (cells-here _ _ (c .before .first-cell .ensures))
 
 pub count-bytes-spec : {M : Type 1} → statement M
-count-bytes-spec = tie.close (tie.spec (λ c κs. search needs) total-requires returns)
+count-bytes-spec = tie.close (tie.spec first-cell-requires total-requires returns)

@@ -24,7 +24,7 @@ returns c =
     let known = c .before .before .before in
     let start = known .before in
     let b = start .args .store .now in
-    let is : c .record-at .result + 5 ≡ firstLink (placeAt b (start .args .at)) = omega (arith, c .record-at .ensures, c .before .small .ensures .0) in
+    let is : c .record-at .result + 5 ≡ firstLink (placeAt b (start .args .link)) = omega (arith, c .record-at .ensures, c .before .small .ensures .0) in
     (is, subst (LinkIn b) (sym is) (here-first _ _ (λ i. known .shared-slice-known .given i .fits) _ (start .pre .1)))
 
 pub first-link-spec : {M : Type 1} → statement M

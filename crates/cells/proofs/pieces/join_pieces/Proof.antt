@@ -1,6 +1,6 @@
 -- Assumes nothing.
 use native.Mathlib.Omega.{arith}
-use mathlib.Core.Path.{_≡_, sym, ap, _∙_}
+use mathlib.Core.Path.{_≡_, ap, _∙_}
 use mathlib.Core.List.{List}
 use Rattle.octets.specs.Octets.{put}
 use Rattle.machine.specs.Values.{Cell}
@@ -8,31 +8,37 @@ use Rattle.machine.specs.Layout.{readCells}
 use Rattle.machine.specs.Sound.{sizes}
 use Rattle.machine.specs.Pieces.{joined}
 use Rattle.store.specs.HeldAt.{recIn}
-use Rattle.cells.specs.OfHeldLaws.{cells-here, here-links}
+use Rattle.store.specs.MetLaws.{here-reached}
+use Rattle.cells.specs.OfHeldLaws.{cells-here, first-inside, here-links}
 use borrow.Author.Needs.{needs}
 use Rattle.cells.proofs.pieces.join_pieces.Statement.{statement}
 use Rattle.cells.proofs.pieces.join_pieces.Tie as tie
 
 -- the cells that are joined are the record's
-same : (c : tie.After-first-cell) → readCells (c .before .before .before .args .store .now) (c .first-cell .result) ≡ recIn (c .before .before .before .args .store .now) (c .before .before .before .args .at) .cells
-same c = let start = c .before .before .before in ap (readCells (start .args .store .now)) (c .first-cell .ensures .0) ∙ sym (cells-here _ (start .args .at))
+abbrev start : tie.After-first-cell → tie.Start
+start c = c .before .before .before
+
+same : (c : tie.After-first-cell) → let a = start c .args in readCells (a .store .now) (c .first-cell .result) ≡ recIn (a .store .now) (a .link) .cells
+same c = cells-here _ _ (c .first-cell .ensures)
+
+first-cell-requires : tie.Need-first-cell-requires
+first-cell-requires c κs = here-reached _ _ (λ i. c .before .shared-slice-known .given i .fits) _ (c .before .before .pre .0 .1)
 
 join-requires : tie.Need-join-requires
 join-requires c κs =
     let known = c .before .before .before in
-    let start = known .before in (
-      here-links _ _ (λ i. known .shared-slice-known .given i .fits) _ (start .pre .0 .1),
-      c .before .first-cell .ensures .1,
-      omega (arith, ap sizes (same (c .before)), start .pre .1),
+    let pre = known .before .pre in (
+      here-links _ _ (λ i. known .shared-slice-known .given i .fits) _ (pre .0 .1),
+      first-inside _ _ (λ i. known .shared-slice-known .given i .fits) _ (pre .0 .1) (c .before .first-cell .ensures),
+      omega (arith, ap sizes (same (c .before)), pre .1),
     )
 
 returns : tie.Need-returns
 returns c =
     let join = c .before .before in
     let first = join .before .before in
-    let start = first .before .before .before in
-    let out = start .args .out .now in
+    let out = start first .args .out .now in
     (join .join .ensures .0 ∙ ap sizes (same first), join .join .ensures .1 ∙ ap (λ (l : List Cell). put out 0 (joined l)) (same first))
 
 pub join-pieces-spec : {M : Type 1} → statement M
-join-pieces-spec = tie.close (tie.spec (λ c κs. search needs) join-requires (λ c. search needs) returns)
+join-pieces-spec = tie.close (tie.spec first-cell-requires join-requires (λ c. search needs) returns)

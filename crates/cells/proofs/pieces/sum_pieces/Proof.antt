@@ -7,7 +7,9 @@ use Rattle.cells.proofs.pieces.sum_pieces.Statement.{statement}
 use Rattle.cells.proofs.pieces.sum_pieces.Tie as tie
 
 returns : tie.Need-returns
-returns c = c .hash .ensures ∙ ap blake3 (sum-of _ _ _ _ (search needs) (c .before .before .before .before .join-pieces .ensures .0) (c .before .before .before .before .join-pieces .ensures .1))
+returns c =
+    c .hash .ensures ∙ ap blake3
+    (sum-of _ _ _ _ (search needs) (c .before .before .before .before .join-pieces .ensures .0) (c .before .before .before .before .join-pieces .ensures .1))
 
 pub sum-pieces-spec : {M : Type 1} → statement M
 sum-pieces-spec =

@@ -10,10 +10,11 @@ returns c =
     let c2 = c1 .before .before .before .before .before in
     let at = c2 .before .before in
     let start = at .before .before in
-    marks-written (start .args .store .now) _ _ (at .cell-at .result) (start .args .cell) (start .args .stamp) (start .args .state)
+    marks-written (start .args .store .now) _ _ (at .cell-at .result) (start .args .place) (start .args .stamp) (start .args .state)
     (start .pre) (at .cell-at .ensures) (c2 .put64 .ensures) (c1 .copy-in .ensures)
 
 pub mark-spec : {M : Type 1} → statement M
 mark-spec =
     tie.close
-    (tie.spec (λ c κs. search needs) (λ c. search needs) (λ c κs. search needs) (λ c. search needs) (λ c. search needs) (λ c κs. search needs) (λ c. search needs) returns)
+    (tie.spec (λ c κs. search needs) (λ c. search needs) (λ c κs. search needs) (λ c. search needs)
+    (λ c. search needs) (λ c κs. search needs) (λ c. search needs) returns)

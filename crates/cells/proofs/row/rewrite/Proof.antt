@@ -15,7 +15,7 @@ returns c =
     let at = c1 .before .before .before .before in
     let start = at .before .before .before in
     let b = start .args .store .now in
-    let k = start .args .cell in
+    let k = start .args .place in
     c1 .put-cell .ensures
     ∙ ap (λ (o : ℕ). put b (cellOff k) (cellRow (getD b o 0) (newCell k (getD b (o + 1) 0) (start .args .bytes .now)))) (at .cell-at .ensures)
 

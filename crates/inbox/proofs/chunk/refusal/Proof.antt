@@ -1,47 +1,88 @@
 -- Assumes nothing.
+use Prim.Native.Nat.{ℕ, _+_, _≤_}
 use native.Mathlib.Omega.{arith}
-use mathlib.Core.Path.{sym, _∙_}
-use borrow.Author.Tests.{not-true, not-false}
+use mathlib.Core.Path.{_≡_, sym, ap, _∙_}
+use mathlib.Core.Bool.{not}
+use mathlib.Core.List.{[], _∷_}
+use lib.ListN.{drop}
+use lib.Dec.{leb}
+use borrow.Author.Tests.{le-leb, lt-leb, not-true, not-false}
+use Rattle.machine.specs.Limits.{longest, topOf}
+use Rattle.machine.specs.Codes.{roleReceive}
+use Rattle.machine.specs.Layout.{recOf}
+use Rattle.machine.specs.Refusals.{Refusals, refusal, asksOf}
+use Rattle.machine.specs.Packet.{tooShort, pieceRow}
+use Rattle.store.specs.HeldAt.{metAt, HeldAt}
 use Rattle.store.specs.MetLaws.{searched-inside, searched-held, here-fine, here-reached}
-use Rattle.inbox.proofs.Chunks.{none-stop, past-stop, high-stop, short-stop, full-stop, all-done, total-is, inside-told, low-told, high-told, short-told}
+use Rattle.store.specs.RefuseLaws.{next, stop, clear}
+use Rattle.store.specs.SearchLaws.{none-met, asks-met}
 use borrow.Author.Needs.{needs}
 use Rattle.inbox.proofs.chunk.refusal.Statement.{statement}
 use Rattle.inbox.proofs.chunk.refusal.Tie as tie
+
+abbrev row : tie.Start → ℕ
+row s = let a = s .args in refusal (asksOf (metAt (a .recv .now) (a .at)) (pieceRow (a .index) (a .offset) (a .size)))
+
+-- its tests, of a message of length t
+abbrev tests : tie.Start → ℕ → Refusals
+tests s t =
+    let a = s .args in
+    (leb (a .offset + a .size) t, 9) ∷ (leb (a .index) (topOf t), 10) ∷ (not (tooShort t (a .index) (a .offset) (a .size)), 11) ∷ []
+
+-- a record is met
+abbrev start : tie.Else1 → tie.Start
+start c = c .before .before .before
+
+held : (c : tie.Else1) → HeldAt roleReceive (start c .args .recv .now) (start c .args .at)
+held c = searched-held _ _ (λ i. c .before .before .shared-slice-known .given i .fits) _ (start c .pre) (c .if1 .left)
+
+-- .. and its length is read: the row from its n-th test on
+abbrev From : ℕ → tie.After-total → Type 0
+From n c = row (start (c .before)) ≡ refusal (drop n (tests (start (c .before)) (c .total .result)))
+
+from9 : (c : tie.After-total) → From 0 c
+unfolding recOf
+from9 c = asks-met (start (c .before) .pre) _ (c .before .if1 .left) ∙ ap (λ (t : ℕ). refusal (tests (start (c .before)) t)) (sym (c .total .ensures))
+
+from10 : (c : tie.Else2) → From 1 (c .before .before)
+from10 c = from9 (c .before .before) ∙ next _ _ _ (sym (c .before .fits2 .ensures) ∙ not-false _ (c .if2 .left))
+
+from11 : (c : tie.Else3) → From 2 (c .before .before .before .before)
+from11 c = from10 (c .before .before) ∙ next _ _ _ (ap (leb _) (sym (c .before .top .ensures .0)) ∙ le-leb _ _ (c .if3 .left))
+
+-- the length fits
+longest-is : (c : tie.After-total) → c .total .result ≤ longest
+unfolding recOf
+longest-is c = omega (arith, c .total .ensures, here-fine _ _ (λ i. c .before .before .before .shared-slice-known .given i .fits) _ (held (c .before)) .total)
 
 shared-slice-read-if1 : tie.Need-shared-slice-read-if1
 shared-slice-read-if1 c = searched-inside _ _ (λ i. c .before .shared-slice-known .given i .fits) _ (c .before .before .pre)
 
 returns : tie.Need-returns
-returns c = none-stop (c .before .before .before .args .index) (c .before .before .before .args .offset) (c .before .before .before .args .size) (c .before .before .before .args .recv .now) (c .before .before .before .args .at) (c .if1 .taken)
+returns c = none-met (c .before .before .before .pre) _ (c .if1 .taken)
 
 total-requires : tie.Need-total-requires
-total-requires c κs = here-reached _ _ (λ i. c .before .before .shared-slice-known .given i .fits) _ (searched-held _ _ (λ i. c .before .before .shared-slice-known .given i .fits) _ (c .before .before .before .pre) (c .if1 .left))
+total-requires c κs = here-reached _ _ (λ i. c .before .before .shared-slice-known .given i .fits) _ (held c)
 
 returns-2 : tie.Need-returns-2
-returns-2 c = past-stop (c .before .before .before .before .before .before .args .index) (c .before .before .before .before .before .before .args .offset) (c .before .before .before .before .before .before .args .size) (c .before .before .before .before .before .before .args .recv .now) (c .before .before .before .before .before .before .args .at) (c .before .before .before .if1 .left) (inside-told (c .before .before .before .before .before .before .args .index) (c .before .before .before .before .before .before .args .offset) (c .before .before .before .before .before .before .args .size) (c .before .before .before .before .before .before .args .recv .now) (c .before .before .before .before .before .before .args .at) (c .before .before .before .if1 .left) _ (c .before .before .total .ensures) _ (c .before .fits2 .ensures) ∙ not-true _ (c .if2 .taken))
+returns-2 c = sym (from9 (c .before .before) ∙ stop _ _ _ (sym (c .before .fits2 .ensures) ∙ not-true _ (c .if2 .taken)))
 
 top-requires : tie.Need-top-requires
-top-requires c κs = let f = here-fine _ _ (λ i. c .before .before .before .before .before .shared-slice-known .given i .fits) _ (searched-held _ _ (λ i. c .before .before .before .before .before .shared-slice-known .given i .fits) _ (c .before .before .before .before .before .before .pre) (c .before .before .before .if1 .left)) in omega (arith, total-is (c .before .before .before .before .before .before .args .index) (c .before .before .before .before .before .before .args .offset) (c .before .before .before .before .before .before .args .size) (c .before .before .before .before .before .before .args .recv .now) (c .before .before .before .before .before .before .args .at) (c .before .before .before .if1 .left) _ (c .before .before .total .ensures), f .total)
+top-requires c κs = longest-is (c .before .before)
 
 returns-3 : tie.Need-returns-3
-returns-3 c = high-stop (c .before .before .before .before .before .before .before .before .args .index) (c .before .before .before .before .before .before .before .before .args .offset) (c .before .before .before .before .before .before .before .before .args .size) (c .before .before .before .before .before .before .before .before .args .recv .now) (c .before .before .before .before .before .before .before .before .args .at) (c .before .before .before .before .before .if1 .left) (inside-told (c .before .before .before .before .before .before .before .before .args .index) (c .before .before .before .before .before .before .before .before .args .offset) (c .before .before .before .before .before .before .before .before .args .size) (c .before .before .before .before .before .before .before .before .args .recv .now) (c .before .before .before .before .before .before .before .before .args .at) (c .before .before .before .before .before .if1 .left) _ (c .before .before .before .before .total .ensures) _ (c .before .before .before .fits2 .ensures) ∙ not-false _ (c .before .before .if2 .left)) (high-told (c .before .before .before .before .before .before .before .before .args .index) (c .before .before .before .before .before .before .before .before .args .offset) (c .before .before .before .before .before .before .before .before .args .size) (c .before .before .before .before .before .before .before .before .args .recv .now) (c .before .before .before .before .before .before .before .before .args .at) (c .before .before .before .before .before .if1 .left) _ (c .before .before .before .before .total .ensures) _ (c .before .top .ensures .0) (c .if3 .taken))
+returns-3 c = sym (from10 (c .before .before) ∙ stop _ _ _ (ap (leb _) (sym (c .before .top .ensures .0)) ∙ lt-leb _ _ (c .if3 .taken)))
 
 too-short-requires : tie.Need-too-short-requires
-too-short-requires c κs = let f = here-fine _ _ (λ i. c .before .before .before .before .before .before .before .shared-slice-known .given i .fits) _ (searched-held _ _ (λ i. c .before .before .before .before .before .before .before .shared-slice-known .given i .fits) _ (c .before .before .before .before .before .before .before .before .pre) (c .before .before .before .before .before .if1 .left)) in omega (arith, total-is (c .before .before .before .before .before .before .before .before .args .index) (c .before .before .before .before .before .before .before .before .args .offset) (c .before .before .before .before .before .before .before .before .args .size) (c .before .before .before .before .before .before .before .before .args .recv .now) (c .before .before .before .before .before .before .before .before .args .at) (c .before .before .before .before .before .if1 .left) _ (c .before .before .before .before .total .ensures), f .total)
+too-short-requires c κs = longest-is (c .before .before .before .before)
 
 returns-4 : tie.Need-returns-4
-returns-4 c = short-stop (c .before .before .before .before .before .before .before .before .before .before .args .index) (c .before .before .before .before .before .before .before .before .before .before .args .offset) (c .before .before .before .before .before .before .before .before .before .before .args .size) (c .before .before .before .before .before .before .before .before .before .before .args .recv .now) (c .before .before .before .before .before .before .before .before .before .before .args .at) (c .before .before .before .before .before .before .before .if1 .left) (inside-told (c .before .before .before .before .before .before .before .before .before .before .args .index) (c .before .before .before .before .before .before .before .before .before .before .args .offset) (c .before .before .before .before .before .before .before .before .before .before .args .size) (c .before .before .before .before .before .before .before .before .before .before .args .recv .now) (c .before .before .before .before .before .before .before .before .before .before .args .at) (c .before .before .before .before .before .before .before .if1 .left) _ (c .before .before .before .before .before .before .total .ensures) _ (c .before .before .before .before .before .fits2 .ensures) ∙ not-false _ (c .before .before .before .before .if2 .left)) (low-told (c .before .before .before .before .before .before .before .before .before .before .args .index) (c .before .before .before .before .before .before .before .before .before .before .args .offset) (c .before .before .before .before .before .before .before .before .before .before .args .size) (c .before .before .before .before .before .before .before .before .before .before .args .recv .now) (c .before .before .before .before .before .before .before .before .before .before .args .at) (c .before .before .before .before .before .before .before .if1 .left) _ (c .before .before .before .before .before .before .total .ensures) _ (c .before .before .before .top .ensures .0) (c .before .before .if3 .left)) (short-told (c .before .before .before .before .before .before .before .before .before .before .args .index) (c .before .before .before .before .before .before .before .before .before .before .args .offset) (c .before .before .before .before .before .before .before .before .before .before .args .size) (c .before .before .before .before .before .before .before .before .before .before .args .recv .now) (c .before .before .before .before .before .before .before .before .before .before .args .at) (c .before .before .before .before .before .before .before .if1 .left) _ (c .before .before .before .before .before .before .total .ensures) _ (c .before .too-short .ensures) ∙ c .if4 .taken)
-
-has-cell-requires : tie.Need-has-cell-requires
-has-cell-requires c κs = searched-held _ _ (λ i. c .before .before .before .before .before .before .before .before .before .shared-slice-known .given i .fits) _ (c .before .before .before .before .before .before .before .before .before .before .pre) (c .before .before .before .before .before .before .before .if1 .left)
+returns-4 c = sym (from11 (c .before .before) ∙ stop _ _ _ (ap not (sym (c .before .too-short .ensures) ∙ c .if4 .taken)))
 
 returns-5 : tie.Need-returns-5
-returns-5 c = full-stop (c .before .before .before .before .before .before .before .before .before .before .before .before .args .index) (c .before .before .before .before .before .before .before .before .before .before .before .before .args .offset) (c .before .before .before .before .before .before .before .before .before .before .before .before .args .size) (c .before .before .before .before .before .before .before .before .before .before .before .before .args .recv .now) (c .before .before .before .before .before .before .before .before .before .before .before .before .args .at) (c .before .before .before .before .before .before .before .before .before .if1 .left) (inside-told (c .before .before .before .before .before .before .before .before .before .before .before .before .args .index) (c .before .before .before .before .before .before .before .before .before .before .before .before .args .offset) (c .before .before .before .before .before .before .before .before .before .before .before .before .args .size) (c .before .before .before .before .before .before .before .before .before .before .before .before .args .recv .now) (c .before .before .before .before .before .before .before .before .before .before .before .before .args .at) (c .before .before .before .before .before .before .before .before .before .if1 .left) _ (c .before .before .before .before .before .before .before .before .total .ensures) _ (c .before .before .before .before .before .before .before .fits2 .ensures) ∙ not-false _ (c .before .before .before .before .before .before .if2 .left)) (low-told (c .before .before .before .before .before .before .before .before .before .before .before .before .args .index) (c .before .before .before .before .before .before .before .before .before .before .before .before .args .offset) (c .before .before .before .before .before .before .before .before .before .before .before .before .args .size) (c .before .before .before .before .before .before .before .before .before .before .before .before .args .recv .now) (c .before .before .before .before .before .before .before .before .before .before .before .before .args .at) (c .before .before .before .before .before .before .before .before .before .if1 .left) _ (c .before .before .before .before .before .before .before .before .total .ensures) _ (c .before .before .before .before .before .top .ensures .0) (c .before .before .before .before .if3 .left)) (short-told (c .before .before .before .before .before .before .before .before .before .before .before .before .args .index) (c .before .before .before .before .before .before .before .before .before .before .before .before .args .offset) (c .before .before .before .before .before .before .before .before .before .before .before .before .args .size) (c .before .before .before .before .before .before .before .before .before .before .before .before .args .recv .now) (c .before .before .before .before .before .before .before .before .before .before .before .before .args .at) (c .before .before .before .before .before .before .before .before .before .if1 .left) _ (c .before .before .before .before .before .before .before .before .total .ensures) _ (c .before .before .before .too-short .ensures) ∙ c .before .before .if4 .left) (sym (c .before .has-cell .ensures) ∙ not-true _ (c .if5 .taken))
-
-returns-6 : tie.Need-returns-6
-returns-6 c = all-done (c .before .before .before .before .before .before .before .before .before .before .before .before .args .index) (c .before .before .before .before .before .before .before .before .before .before .before .before .args .offset) (c .before .before .before .before .before .before .before .before .before .before .before .before .args .size) (c .before .before .before .before .before .before .before .before .before .before .before .before .args .recv .now) (c .before .before .before .before .before .before .before .before .before .before .before .before .args .at) (c .before .before .before .before .before .before .before .before .before .if1 .left) (inside-told (c .before .before .before .before .before .before .before .before .before .before .before .before .args .index) (c .before .before .before .before .before .before .before .before .before .before .before .before .args .offset) (c .before .before .before .before .before .before .before .before .before .before .before .before .args .size) (c .before .before .before .before .before .before .before .before .before .before .before .before .args .recv .now) (c .before .before .before .before .before .before .before .before .before .before .before .before .args .at) (c .before .before .before .before .before .before .before .before .before .if1 .left) _ (c .before .before .before .before .before .before .before .before .total .ensures) _ (c .before .before .before .before .before .before .before .fits2 .ensures) ∙ not-false _ (c .before .before .before .before .before .before .if2 .left)) (low-told (c .before .before .before .before .before .before .before .before .before .before .before .before .args .index) (c .before .before .before .before .before .before .before .before .before .before .before .before .args .offset) (c .before .before .before .before .before .before .before .before .before .before .before .before .args .size) (c .before .before .before .before .before .before .before .before .before .before .before .before .args .recv .now) (c .before .before .before .before .before .before .before .before .before .before .before .before .args .at) (c .before .before .before .before .before .before .before .before .before .if1 .left) _ (c .before .before .before .before .before .before .before .before .total .ensures) _ (c .before .before .before .before .before .top .ensures .0) (c .before .before .before .before .if3 .left)) (short-told (c .before .before .before .before .before .before .before .before .before .before .before .before .args .index) (c .before .before .before .before .before .before .before .before .before .before .before .before .args .offset) (c .before .before .before .before .before .before .before .before .before .before .before .before .args .size) (c .before .before .before .before .before .before .before .before .before .before .before .before .args .recv .now) (c .before .before .before .before .before .before .before .before .before .before .before .before .args .at) (c .before .before .before .before .before .before .before .before .before .if1 .left) _ (c .before .before .before .before .before .before .before .before .total .ensures) _ (c .before .before .before .too-short .ensures) ∙ c .before .before .if4 .left) (sym (c .before .has-cell .ensures) ∙ not-false _ (c .if5 .left))
+returns-5 c = sym (from11 (c .before .before) ∙ next _ _ _ (ap not (sym (c .before .too-short .ensures) ∙ c .if4 .left)) ∙ clear)
 
 pub refusal-spec : {M : Type 1} → statement M
 refusal-spec =
     tie.close
-    (tie.spec shared-slice-read-if1 returns total-requires (λ c κs. search needs) returns-2 top-requires returns-3 too-short-requires returns-4 has-cell-requires returns-5 returns-6)
+    (tie.spec shared-slice-read-if1 returns total-requires (λ c κs. search needs) returns-2 top-requires returns-3 too-short-requires returns-4 returns-5)

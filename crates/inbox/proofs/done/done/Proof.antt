@@ -1,24 +1,49 @@
 -- Assumes nothing.
-use mathlib.Core.Path.{sym, _∙_}
+use mathlib.Core.Path.{refl, sym, ap, _∙_}
+use Rattle.octets.specs.BoolsLaws.{both}
+use Rattle.machine.specs.Codes.{roleReceive}
+use Rattle.machine.specs.Values.{Key}
+use Rattle.machine.specs.Layout.{encode, decode}
+use Rattle.machine.specs.Receive.{doneStep}
+use Rattle.steps.specs.Refusals.{refusal-clear}
 use Rattle.store.specs.RefuseLaws.{refused, done}
-use Rattle.inbox.proofs.Dones.{number-is, here, complete, finished}
+use Rattle.store.specs.SearchLaws.{Search, ended, number-is, passed, held-here, held-key}
 use borrow.Author.Needs.{needs}
 use Rattle.inbox.proofs.done.done.Statement.{statement}
 use Rattle.inbox.proofs.done.done.Tie as tie
 
+-- the search for the id
+abbrev start : tie.After-find-held → tie.Start
+start c = c .before .before .before .before .before
+
+searched : (c : tie.After-find-held) → Search roleReceive (start c .args .recv .now) (start c .args .id .now) (c .find-held .result)
+searched c = record { bytes = λ i. c .before .before .before .before .slice-known .given i .fits; sound = start c .pre; is = c .find-held .ensures .0 }
+
 refusal-requires : tie.Need-refusal-requires
-refusal-requires c κs = record { sound = c .before .before .before .before .before .before .before .before .pre .0; key = _; is = c .before .before .before .find-held .ensures .0 }
+refusal-requires c κs = ended (searched (c .before))
 
 returns : tie.Need-returns
-returns c = refused _ _ _ _ (number-is _ _ (c .before .before .before .before .before .before .before .before .before .before .args .known) (λ i. c .before .before .before .before .before .before .before .before .before .slice-known .given i .fits) (c .before .before .before .before .before .before .before .before .before .before .pre .0) _ (c .before .before .before .before .before .before .id .ensures) _ (c .before .before .before .before .before .find-held .ensures .0) _ _ _ (c .before .before .before .count .ensures) (c .before .before .sum .ensures) (c .before .refusal .ensures)) (c .if1 .taken)
+returns c = refused _ _ _ _ (number-is (searched (c .before .before .before)) _ (c .before .refusal .ensures)) (c .if1 .taken)
 
 finish-requires : tie.Need-finish-requires
-finish-requires c κs = (here _ _ (c .before .before .before .before .before .before .before .before .before .before .before .args .known) (λ i. c .before .before .before .before .before .before .before .before .before .before .slice-known .given i .fits) (c .before .before .before .before .before .before .before .before .before .before .before .pre .0) _ (c .before .before .before .before .before .before .before .id .ensures) _ (c .before .before .before .before .before .before .find-held .ensures .0) _ _ _ (c .before .before .before .before .count .ensures) (c .before .before .before .sum .ensures) (c .before .before .refusal .ensures) (c .before .if1 .left), complete _ _ (c .before .before .before .before .before .before .before .before .before .before .before .args .known) (λ i. c .before .before .before .before .before .before .before .before .before .before .slice-known .given i .fits) (c .before .before .before .before .before .before .before .before .before .before .before .pre .0) _ (c .before .before .before .before .before .before .before .id .ensures) _ (c .before .before .before .before .before .before .find-held .ensures .0) _ _ _ (c .before .before .before .before .count .ensures) (c .before .before .before .sum .ensures) (c .before .before .refusal .ensures) (c .before .if1 .left))
+finish-requires c κs =
+    let accepted = c .before in
+    let refused = accepted .before in
+    let h = searched (refused .before .before) in
+    let tests = refusal-clear _ refl (passed h _ (refused .refusal .ensures) (accepted .if1 .left)) in
+    (held-here h _ (refused .refusal .ensures) (accepted .if1 .left), both _ _ (tests .1 .0) (tests .1 .1 .0))
 
 returns-2 : tie.Need-returns-2
-returns-2 c = done _ _ _ _ (sym (c .before .before .before .before .if1 .left) ∙ number-is _ _ (c .before .before .before .before .before .before .before .before .before .before .before .before .before .before .args .known) (λ i. c .before .before .before .before .before .before .before .before .before .before .before .before .before .slice-known .given i .fits) (c .before .before .before .before .before .before .before .before .before .before .before .before .before .before .pre .0) _ (c .before .before .before .before .before .before .before .before .before .before .id .ensures) _ (c .before .before .before .before .before .before .before .before .before .find-held .ensures .0) _ _ _ (c .before .before .before .before .before .before .before .count .ensures) (c .before .before .before .before .before .before .sum .ensures) (c .before .before .before .before .before .refusal .ensures)) (finished _ _ (c .before .before .before .before .before .before .before .before .before .before .before .before .before .before .args .known) (λ i. c .before .before .before .before .before .before .before .before .before .before .before .before .before .slice-known .given i .fits) (c .before .before .before .before .before .before .before .before .before .before .before .before .before .before .pre .0) _ (c .before .before .before .before .before .before .before .before .before .before .id .ensures) _ (c .before .before .before .before .before .before .before .before .before .find-held .ensures .0) _ _ _ (c .before .before .before .before .before .before .before .count .ensures) (c .before .before .before .before .before .before .sum .ensures) (c .before .before .before .before .before .refusal .ensures) (c .before .before .before .before .if1 .left) _ (c .before .before .finish .ensures))
+returns-2 c =
+    let finish = c .before .before in
+    let accepted = finish .before .before in
+    let refused = accepted .before in
+    let found = refused .before .before in
+    let h = searched found in
+    done _ _ _ _ (sym (accepted .if1 .left) ∙ number-is h _ (refused .refusal .ensures))
+    (finish .finish .ensures ∙ ap (λ (k : Key). encode (doneStep k (decode (start found .args .recv .now)))) (held-key h _ (refused .refusal .ensures) (accepted .if1 .left)))
 
 pub done-spec : {M : Type 1} → statement M
 done-spec =
     tie.close
-    (tie.spec (λ c κs. search needs) (λ c κs. search needs) (λ c κs. search needs) (λ c κs. search needs) refusal-requires (λ c. search needs) returns finish-requires (λ c. search needs) returns-2)
+    (tie.spec (λ c κs. search needs) refusal-requires (λ c. search needs) returns finish-requires (λ c. search needs) returns-2)

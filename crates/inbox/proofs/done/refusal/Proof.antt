@@ -1,53 +1,133 @@
 -- Assumes nothing.
+use Prim.Native.Nat.{ℕ}
 use native.Mathlib.Omega.{arith}
-use mathlib.Core.Path.{sym, _∙_}
-use borrow.Author.Tests.{not-true, not-false}
-use Rattle.machine.specs.Codes.{roleReceive}
+use mathlib.Core.Path.{_≡_, sym, ap, _∙_}
+use mathlib.Core.Bool.{not}
+use mathlib.Core.List.{[], _∷_}
+use lib.ListN.{length, drop}
+use lib.Dec.{eqb}
+use borrow.Author.Tests.{eq-eqb, ne-eqb, not-true, not-false}
+use Rattle.octets.specs.Octets.{same}
+use Rattle.blake3.specs.Tree.{blake3}
+use Rattle.machine.specs.Codes.{roleReceive, yes}
+use Rattle.machine.specs.Values.{Rec}
+use Rattle.machine.specs.Layout.{recOf}
+use Rattle.machine.specs.Pieces.{joined}
+use Rattle.machine.specs.Sound.{sizes}
+use Rattle.machine.specs.Refusals.{Refusals, refusal}
+use Rattle.machine.specs.Packet.{doneRow}
+use Rattle.store.specs.HeldAt.{metAt, recIn, HeldAt, Reached}
 use Rattle.store.specs.MetLaws.{searched-inside, searched-held, here-fine, here-reached}
-use Rattle.inbox.proofs.Dones.{none-stop, count-stop, gap-stop, total-stop, sum-stop, key-stop, all-done, total-is}
+use Rattle.store.specs.RefuseLaws.{next, stop, clear}
+use Rattle.store.specs.SearchLaws.{none-met, asks-met}
 use Rattle.inbox.proofs.done.refusal.Statement.{statement}
 use Rattle.inbox.proofs.done.refusal.Tie as tie
+
+-- the tests of the record
+abbrev tests : tie.Start → Refusals
+tests s =
+    let a = s .args in
+    let r : Rec = recIn (a .recv .now) (a .at) in
+    (eqb (a .count) (r .slots), 13)
+    ∷ (eqb (length (r .cells)) (r .slots), 14)
+    ∷ (eqb (sizes (r .cells)) (r .label .total), 15)
+    ∷ (same (a .sum .now) (blake3 (joined (r .cells))), 16)
+    ∷ (yes (a .known), 17)
+    ∷ []
+
+-- a record is met
+abbrev start : tie.Else1 → tie.Start
+start c = c .before .before .before .before
+
+held : (c : tie.Else1) → HeldAt roleReceive (start c .args .recv .now) (start c .args .at)
+held c = searched-held _ _ (λ i. c .before .before .before .shared-slice-known .given i .fits) _ (start c .pre) (c .if1 .left)
+
+reached : (c : tie.Else1) → Reached (start c .args .recv .now) (start c .args .at)
+reached c = here-reached _ _ (λ i. c .before .before .before .shared-slice-known .given i .fits) _ (held c)
+
+-- the row from its n-th test on
+abbrev From : ℕ → tie.Else1 → Type 0
+From n c =
+    let a = start c .args in
+    refusal (doneRow (a .count) (a .sum .now) (yes (a .known)) (metAt (a .recv .now) (a .at))) ≡ refusal (drop n (tests (start c)))
+
+from13 : (c : tie.Else1) → From 0 c
+from13 c = asks-met (start c .pre) _ (c .if1 .left)
+
+abbrev met2 : tie.Else2 → tie.Else1
+met2 c = c .before .before
+
+from14 : (c : tie.Else2) → From 1 (met2 c)
+unfolding recOf
+from14 c = from13 (met2 c) ∙ next _ _ _ (eq-eqb _ _ (c .if2 .left ∙ c .before .slots .ensures .0))
+
+abbrev met3 : tie.Else3 → tie.Else1
+met3 c = met2 (c .before .before)
+
+from15 : (c : tie.Else3) → From 2 (met3 c)
+unfolding recOf
+from15 c =
+    let slots = c .before .before .before in
+    from14 (c .before .before) ∙ next _ _ _ (eq-eqb _ _ (sym (c .before .count-pieces .ensures) ∙ c .if3 .left ∙ slots .slots .ensures .0))
+
+abbrev met4 : tie.Else4 → tie.Else1
+met4 c = met3 (c .before .before .before)
+
+from16 : (c : tie.Else4) → From 3 (met4 c)
+unfolding recOf
+from16 c =
+    let total = c .before in
+    let bytes = total .before in
+    from15 (bytes .before) ∙ next _ _ _ (eq-eqb _ _ (sym (bytes .count-bytes .ensures) ∙ c .if4 .left ∙ total .total .ensures))
+
+abbrev met5 : tie.Else5 → tie.Else1
+met5 c = met4 (c .before .before)
+
+from17 : (c : tie.Else5) → From 4 (met5 c)
+from17 c = from16 (c .before .before) ∙ next _ _ _ (sym (c .before .has-sum .ensures) ∙ not-false _ (c .if5 .left))
 
 shared-slice-read-if1 : tie.Need-shared-slice-read-if1
 shared-slice-read-if1 c = searched-inside _ _ (λ i. c .before .before .shared-slice-known .given i .fits) _ (c .before .before .before .pre)
 
 returns : tie.Need-returns
-returns c = none-stop (c .before .before .before .before .args .count) (c .before .before .before .before .args .sum .now) (c .before .before .before .before .args .known) (c .before .before .before .before .args .recv .now) (c .before .before .before .before .args .at) (c .if1 .taken)
-
-slots-requires : tie.Need-slots-requires
-slots-requires c κs = here-reached _ _ (λ i. c .before .before .before .shared-slice-known .given i .fits) _ (searched-held _ _ (λ i. c .before .before .before .shared-slice-known .given i .fits) _ (c .before .before .before .before .pre) (c .if1 .left))
+returns c = none-met (c .before .before .before .before .pre) _ (c .if1 .taken)
 
 returns-2 : tie.Need-returns-2
-returns-2 c = count-stop (c .before .before .before .before .before .before .args .count) (c .before .before .before .before .before .before .args .sum .now) (c .before .before .before .before .before .before .args .known) (c .before .before .before .before .before .before .args .recv .now) (c .before .before .before .before .before .before .args .at) (c .before .before .if1 .left) _ (c .before .slots .ensures .0) (c .if2 .taken)
-
-count-pieces-requires : tie.Need-count-pieces-requires
-count-pieces-requires c κs = (roleReceive, searched-held _ _ (λ i. c .before .before .before .before .before .shared-slice-known .given i .fits) _ (c .before .before .before .before .before .before .pre) (c .before .before .if1 .left))
+unfolding recOf
+returns-2 c = sym (from13 (c .before .before) ∙ stop _ _ _ (ne-eqb _ _ (λ q. c .if2 .taken (q ∙ sym (c .before .slots .ensures .0)))))
 
 returns-3 : tie.Need-returns-3
-returns-3 c = gap-stop (c .before .before .before .before .before .before .before .before .args .count) (c .before .before .before .before .before .before .before .before .args .sum .now) (c .before .before .before .before .before .before .before .before .args .known) (c .before .before .before .before .before .before .before .before .args .recv .now) (c .before .before .before .before .before .before .before .before .args .at) (c .before .before .before .before .if1 .left) _ (c .before .before .before .slots .ensures .0) (c .before .before .if2 .left) _ (c .before .count-pieces .ensures) (c .if3 .taken)
-
-count-bytes-requires : tie.Need-count-bytes-requires
-count-bytes-requires c κs = (roleReceive, searched-held _ _ (λ i. c .before .before .before .before .before .before .before .shared-slice-known .given i .fits) _ (c .before .before .before .before .before .before .before .before .pre) (c .before .before .before .before .if1 .left))
-
-total-requires : tie.Need-total-requires
-total-requires c κs = here-reached _ _ (λ i. c .before .before .before .before .before .before .before .before .shared-slice-known .given i .fits) _ (searched-held _ _ (λ i. c .before .before .before .before .before .before .before .before .shared-slice-known .given i .fits) _ (c .before .before .before .before .before .before .before .before .before .pre) (c .before .before .before .before .before .if1 .left))
+unfolding recOf
+returns-3 c =
+    let slots = c .before .before .before in
+    sym (from14 (c .before .before) ∙ stop _ _ _ (ne-eqb _ _ (λ q. c .if3 .taken (c .before .count-pieces .ensures ∙ q ∙ sym (slots .slots .ensures .0)))))
 
 returns-4 : tie.Need-returns-4
-returns-4 c = total-stop (c .before .before .before .before .before .before .before .before .before .before .before .args .count) (c .before .before .before .before .before .before .before .before .before .before .before .args .sum .now) (c .before .before .before .before .before .before .before .before .before .before .before .args .known) (c .before .before .before .before .before .before .before .before .before .before .before .args .recv .now) (c .before .before .before .before .before .before .before .before .before .before .before .args .at) (c .before .before .before .before .before .before .before .if1 .left) _ (c .before .before .before .before .before .before .slots .ensures .0) (c .before .before .before .before .before .if2 .left) _ (c .before .before .before .before .count-pieces .ensures) (c .before .before .before .if3 .left) _ _ (c .before .before .count-bytes .ensures) (c .before .total .ensures) (c .if4 .taken)
+unfolding recOf
+returns-4 c =
+    let total = c .before in
+    let bytes = total .before in
+    sym (from15 (bytes .before) ∙ stop _ _ _ (ne-eqb _ _ (λ q. c .if4 .taken (bytes .count-bytes .ensures ∙ q ∙ sym (total .total .ensures)))))
 
 has-sum-requires : tie.Need-has-sum-requires
-has-sum-requires c κs = let f = here-fine _ _ (λ i. c .before .before .before .before .before .before .before .before .before .before .shared-slice-known .given i .fits) _ (searched-held _ _ (λ i. c .before .before .before .before .before .before .before .before .before .before .shared-slice-known .given i .fits) _ (c .before .before .before .before .before .before .before .before .before .before .before .pre) (c .before .before .before .before .before .before .before .if1 .left)) in (searched-held _ _ (λ i. c .before .before .before .before .before .before .before .before .before .before .shared-slice-known .given i .fits) _ (c .before .before .before .before .before .before .before .before .before .before .before .pre) (c .before .before .before .before .before .before .before .if1 .left), omega (arith, f .total, total-is (c .before .before .before .before .before .before .before .before .before .before .before .args .count) (c .before .before .before .before .before .before .before .before .before .before .before .args .sum .now) (c .before .before .before .before .before .before .before .before .before .before .before .args .known) (c .before .before .before .before .before .before .before .before .before .before .before .args .recv .now) (c .before .before .before .before .before .before .before .before .before .before .before .args .at) (c .before .before .before .before .before .before .before .if1 .left) _ (c .before .before .before .before .before .before .slots .ensures .0) (c .before .before .before .before .before .if2 .left) _ (c .before .before .before .before .count-pieces .ensures) (c .before .before .before .if3 .left) _ _ (c .before .before .count-bytes .ensures) (c .before .total .ensures), c .if4 .left, c .before .before .count-bytes .ensures))
+unfolding recOf
+has-sum-requires c κs =
+    let total = c .before in
+    let met = met4 c in
+    let f = here-fine _ _ (λ i. met .before .before .before .shared-slice-known .given i .fits) _ (held met) in
+    (held met, omega (arith, f .total, total .total .ensures, c .if4 .left, total .before .count-bytes .ensures))
 
 returns-5 : tie.Need-returns-5
-returns-5 c = sum-stop (c .before .before .before .before .before .before .before .before .before .before .before .before .before .args .count) (c .before .before .before .before .before .before .before .before .before .before .before .before .before .args .sum .now) (c .before .before .before .before .before .before .before .before .before .before .before .before .before .args .known) (c .before .before .before .before .before .before .before .before .before .before .before .before .before .args .recv .now) (c .before .before .before .before .before .before .before .before .before .before .before .before .before .args .at) (c .before .before .before .before .before .before .before .before .before .if1 .left) _ (c .before .before .before .before .before .before .before .before .slots .ensures .0) (c .before .before .before .before .before .before .before .if2 .left) _ (c .before .before .before .before .before .before .count-pieces .ensures) (c .before .before .before .before .before .if3 .left) _ _ (c .before .before .before .before .count-bytes .ensures) (c .before .before .before .total .ensures) (c .before .before .if4 .left) (sym (c .before .has-sum .ensures) ∙ not-true _ (c .if5 .taken))
+returns-5 c = sym (from16 (c .before .before) ∙ stop _ _ _ (sym (c .before .has-sum .ensures) ∙ not-true _ (c .if5 .taken)))
 
 returns-6 : tie.Need-returns-6
-returns-6 c = key-stop (c .before .before .before .before .before .before .before .before .before .before .before .before .before .before .args .count) (c .before .before .before .before .before .before .before .before .before .before .before .before .before .before .args .sum .now) (c .before .before .before .before .before .before .before .before .before .before .before .before .before .before .args .known) (c .before .before .before .before .before .before .before .before .before .before .before .before .before .before .args .recv .now) (c .before .before .before .before .before .before .before .before .before .before .before .before .before .before .args .at) (c .before .before .before .before .before .before .before .before .before .before .if1 .left) _ (c .before .before .before .before .before .before .before .before .before .slots .ensures .0) (c .before .before .before .before .before .before .before .before .if2 .left) _ (c .before .before .before .before .before .before .before .count-pieces .ensures) (c .before .before .before .before .before .before .if3 .left) _ _ (c .before .before .before .before .before .count-bytes .ensures) (c .before .before .before .before .total .ensures) (c .before .before .before .if4 .left) (sym (c .before .before .has-sum .ensures) ∙ not-false _ (c .before .if5 .left)) (c .if6 .taken)
+returns-6 c = sym (from17 (c .before) ∙ stop _ _ _ (ap not (eq-eqb _ 0 (c .if6 .taken))))
 
 returns-7 : tie.Need-returns-7
-returns-7 c = all-done (c .before .before .before .before .before .before .before .before .before .before .before .before .before .before .args .count) (c .before .before .before .before .before .before .before .before .before .before .before .before .before .before .args .sum .now) (c .before .before .before .before .before .before .before .before .before .before .before .before .before .before .args .known) (c .before .before .before .before .before .before .before .before .before .before .before .before .before .before .args .recv .now) (c .before .before .before .before .before .before .before .before .before .before .before .before .before .before .args .at) (c .before .before .before .before .before .before .before .before .before .before .if1 .left) _ (c .before .before .before .before .before .before .before .before .before .slots .ensures .0) (c .before .before .before .before .before .before .before .before .if2 .left) _ (c .before .before .before .before .before .before .before .count-pieces .ensures) (c .before .before .before .before .before .before .if3 .left) _ _ (c .before .before .before .before .before .count-bytes .ensures) (c .before .before .before .before .total .ensures) (c .before .before .before .if4 .left) (sym (c .before .before .has-sum .ensures) ∙ not-false _ (c .before .if5 .left)) (c .if6 .left)
+returns-7 c = sym (from17 (c .before) ∙ next _ _ _ (ap not (ne-eqb _ 0 (c .if6 .left))) ∙ clear)
 
 pub refusal-spec : {M : Type 1} → statement M
 refusal-spec =
     tie.close
-    (tie.spec shared-slice-read-if1 returns slots-requires returns-2 count-pieces-requires returns-3 count-bytes-requires total-requires returns-4 has-sum-requires returns-5 returns-6 returns-7)
+    (tie.spec shared-slice-read-if1 returns (λ c κs. reached c) returns-2 (λ c κs. (roleReceive, held (met2 c))) returns-3
+    (λ c κs. (roleReceive, held (met3 c))) (λ c κs. reached (met3 (c .before))) returns-4 has-sum-requires returns-5 returns-6 returns-7)

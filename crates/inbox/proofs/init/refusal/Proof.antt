@@ -1,39 +1,66 @@
 -- Assumes nothing.
-use mathlib.Core.Path.{sym, _∙_}
-use Rattle.inbox.proofs.Inits.{rules-stop, whole-stop, long-stop, held-done, free-done, none-stop, told, told-le, told-lt}
-use Rattle.machine.specs.Values.{Store}
+use Prim.Native.Nat.{ℕ}
+use native.Mathlib.Omega.{arith}
+use mathlib.Core.Path.{_≡_, sym, ap, _∙_}
+use mathlib.Core.Bool.{not}
+use lib.ListN.{drop, getD}
+use borrow.Author.Tests.{le-leb, lt-leb, eq-eqb, ne-eqb}
 use Rattle.machine.specs.Layout.{decode}
-use Rattle.machine.specs.Packet.{Packet, arrival}
+use Rattle.machine.specs.Refusals.{Refusals, refusal}
+use Rattle.store.specs.HeldAt.{metAt}
+use Rattle.store.specs.MetLaws.{searched-inside}
+use Rattle.store.specs.RefuseLaws.{next, stop, clear}
+use Rattle.machine.specs.Packet.{placeRow}
 use borrow.Author.Needs.{needs}
 use Rattle.inbox.proofs.init.refusal.Statement.{statement}
 use Rattle.inbox.proofs.init.refusal.Tie as tie
 
--- the packet and the store at the arguments
-abbrev P : tie.Start → Packet
-P s = arrival (s .args .frame .now) (s .args .from .now) (s .args .from .now) (s .args .rules .now) 0
+abbrev row : tie.Start → Refusals
+row s = let a = s .args in placeRow (a .id .now) (a .total) (decode (a .recv .now)) (metAt (a .recv .now) (a .at))
 
-abbrev S : tie.Start → Store
-S s = decode (s .args .recv .now)
+-- the row from its n-th test on
+abbrev From : ℕ → tie.Start → Type 0
+From n s = refusal (row s) ≡ refusal (drop n (row s))
+
+from6 : (c : tie.Else1) → From 1 (c .before .before .before .before)
+from6 c = next _ _ _ (ap not (sym (c .before .is-whole .ensures) ∙ c .if1 .left))
+
+from7 : (c : tie.Else2) → From 2 (c .before .before .before .before .before)
+from7 c = from6 (c .before) ∙ next _ _ _ (le-leb _ _ (c .if2 .left))
 
 returns : tie.Need-returns
-returns c = rules-stop (P (c .before .before .before .before .before)) (S (c .before .before .before .before .before)) _ (c .before .rules-refusal .ensures) (c .if1 .taken)
+returns c = sym (stop _ _ _ (ap not (sym (c .before .is-whole .ensures) ∙ c .if1 .taken)))
 
 returns-2 : tie.Need-returns-2
-returns-2 c = whole-stop (P (c .before .before .before .before .before .before .before .before)) (S (c .before .before .before .before .before .before .before .before)) _ (c .before .before .before .before .rules-refusal .ensures) (c .before .before .before .if1 .left) (told _ _ _ _ (c .before .is-whole .ensures) (c .before .before .id .ensures) ∙ c .if2 .taken)
+returns-2 c = sym (from6 (c .before) ∙ stop _ _ _ (lt-leb _ _ (c .if2 .taken)))
+
+shared-slice-read-if3 : tie.Need-shared-slice-read-if3
+shared-slice-read-if3 c =
+    let known = c .before .before .before .before in
+    searched-inside _ _ (λ i. known .before .shared-slice-known .given i .fits) _ (known .before .before .pre)
+
+-- no record is held
+none-held : (c : tie.Else3) → let a = c .before .before .before .before .before .before .before .args in getD (a .recv .now) (a .at) 0 ≡ 0
+none-held c = omega (arith, c .if3 .left)
 
 returns-3 : tie.Need-returns-3
-returns-3 c = long-stop (P (c .before .before .before .before .before .before .before .before .before .before)) (S (c .before .before .before .before .before .before .before .before .before .before)) _ (c .before .before .before .before .before .before .rules-refusal .ensures) (c .before .before .before .before .before .if1 .left) (told _ _ _ _ (c .before .before .before .is-whole .ensures) (c .before .before .before .before .id .ensures) ∙ c .before .before .if2 .left) (told-lt _ _ _ (c .before .length .ensures) (c .if3 .taken))
+returns-3 c =
+    let a = c .before .before .before .before .before .before .before .args in
+    sym (from7 (c .before .before) ∙ next _ _ _ (rw (ne-eqb (getD (a .recv .now) (a .at) 0) 0 (λ e. omega (arith, c .if3 .taken)))) ∙ clear)
 
 returns-4 : tie.Need-returns-4
-returns-4 c = held-done (P (c .before .before .before .before .before .before .before .before .before .before .before .before)) (S (c .before .before .before .before .before .before .before .before .before .before .before .before)) _ (c .before .before .before .before .before .before .before .before .rules-refusal .ensures) (c .before .before .before .before .before .before .before .if1 .left) (told _ _ _ _ (c .before .before .before .before .before .is-whole .ensures) (c .before .before .before .before .before .before .id .ensures) ∙ c .before .before .before .before .if2 .left) (told-le _ _ _ (c .before .before .before .length .ensures) (c .before .before .if3 .left)) (told _ _ _ _ (c .before .is-held .ensures) (c .before .before .before .before .before .before .id .ensures) ∙ c .if4 .taken)
+returns-4 c =
+    let free = c .before in
+    let past = free .before in
+    sym (from7 (past .before .before) ∙ next _ _ _ (rw (eq-eqb _ 0 (none-held past)) (sym (free .is-free .ensures) ∙ c .if4 .taken)) ∙ clear)
 
 returns-5 : tie.Need-returns-5
-returns-5 c = free-done (P (c .before .before .before .before .before .before .before .before .before .before .before .before .before .before)) (S (c .before .before .before .before .before .before .before .before .before .before .before .before .before .before)) _ (c .before .before .before .before .before .before .before .before .before .before .rules-refusal .ensures) (c .before .before .before .before .before .before .before .before .before .if1 .left) (told _ _ _ _ (c .before .before .before .before .before .before .before .is-whole .ensures) (c .before .before .before .before .before .before .before .before .id .ensures) ∙ c .before .before .before .before .before .before .if2 .left) (told-le _ _ _ (c .before .before .before .before .before .length .ensures) (c .before .before .before .before .if3 .left)) (told _ _ _ _ (c .before .before .before .is-held .ensures) (c .before .before .before .before .before .before .before .before .id .ensures) ∙ c .before .before .if4 .left) (sym (c .before .is-free .ensures) ∙ c .if5 .taken)
-
-returns-6 : tie.Need-returns-6
-returns-6 c = none-stop (P (c .before .before .before .before .before .before .before .before .before .before .before .before .before .before)) (S (c .before .before .before .before .before .before .before .before .before .before .before .before .before .before)) _ (c .before .before .before .before .before .before .before .before .before .before .rules-refusal .ensures) (c .before .before .before .before .before .before .before .before .before .if1 .left) (told _ _ _ _ (c .before .before .before .before .before .before .before .is-whole .ensures) (c .before .before .before .before .before .before .before .before .id .ensures) ∙ c .before .before .before .before .before .before .if2 .left) (told-le _ _ _ (c .before .before .before .before .before .length .ensures) (c .before .before .before .before .if3 .left)) (told _ _ _ _ (c .before .before .before .is-held .ensures) (c .before .before .before .before .before .before .before .before .id .ensures) ∙ c .before .before .if4 .left) (sym (c .before .is-free .ensures) ∙ c .if5 .left)
+returns-5 c =
+    let free = c .before in
+    let past = free .before in
+    sym (from7 (past .before .before) ∙ stop _ _ _ (rw (eq-eqb _ 0 (none-held past)) (sym (free .is-free .ensures) ∙ c .if4 .left)))
 
 pub refusal-spec : {M : Type 1} → statement M
 refusal-spec =
     tie.close
-    (tie.spec (λ c κs. search needs) returns (λ c κs. search needs) (λ c κs. search needs) returns-2 (λ c κs. search needs) returns-3 (λ c κs. search needs) returns-4 (λ c κs. search needs) returns-5 returns-6)
+    (tie.spec (λ c κs. search needs) returns returns-2 shared-slice-read-if3 returns-3 (λ c κs. search needs) returns-4 returns-5)

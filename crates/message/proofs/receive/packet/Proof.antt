@@ -1,54 +1,162 @@
--- The refusals in their order, then the step and its reply. Assumes nothing.
-use mathlib.Core.Path.{sym, ap, _∙_}
+-- The refusals in document 01's order, then the step and its reply. Assumes nothing.
+use Prim.Native.Nat.{ℕ}
+use native.Mathlib.Omega.{arith}
+use mathlib.Core.Path.{_≡_, sym, ap, _∙_}
 use lib.ListN.{length}
-use borrow.Author.Tests.{not-true, not-false}
+use borrow.Author.Tests.{eq-eqb, ne-eqb, le-leb, lt-leb, not-true, not-false}
 use Rattle.octets.specs.Octets.{put}
-use Rattle.machine.specs.Packet.{Packet, kind, packetOf, arrival}
-use Rattle.message.proofs.Steps.{same-out}
-use Rattle.message.proofs.Packets.{recv-out, send-out, frame-out, kind-out, room-out, step-out, done-out}
+use Rattle.packet.specs.declared.header.Kind.{Kind}
+use Rattle.packet.specs.Frame.{kindOf}
+use Rattle.machine.specs.Packet.{kind, isKind, kindWake, replyBytes, packetRow, packetOf, arrival}
+use Rattle.store.specs.RefuseLaws.{next, stop}
+use Rattle.message.specs.Both.{bothOf, replyOut}
+use Rattle.message.proofs.Packets.{Call, From, refused, step-out, done-out}
 use borrow.Author.Needs.{needs}
 use Rattle.message.proofs.receive.packet.Statement.{statement}
 use Rattle.message.proofs.receive.packet.Tie as tie
 
--- the packet at the arguments
-abbrev P : tie.Start → Packet
-P s = arrival (s .args .frame .now) (s .args .from .now) (s .args .to .now) (s .args .rules .now) (s .args .known)
+-- the call, from each point on its way
+abbrev Q : tie.Start → Call
+Q s =
+    let a = s .args in
+    record { packet = arrival (a .frame .now) (a .from .now) (a .to .now) (a .rules .now) (a .known); recv = a .recv .now; send = a .send .now; out = a .run .now }
+
+abbrev s1 : tie.Else1 → tie.Start
+s1 c = c .before .before .before .before .before .before .before .before
+
+abbrev s2 : tie.Else2 → tie.Start
+s2 c = s1 (c .before .before .before)
+
+abbrev s3 : tie.Else3 → tie.Start
+s3 c = s2 (c .before)
+
+abbrev s4 : tie.Else4 → tie.Start
+s4 c = s3 (c .before .before .before .before .before)
+
+-- the kind of the frame is decided
+kind-is : (c : tie.After-kind-of) → c .kind-of .result ≡ kind (Q (s3 (c .before .before)) .packet)
+kind-is c = c .kind-of .ensures ∙ ap kindOf (c .before .flags .ensures)
+
+-- the row behind each test
+from1 : (c : tie.Else1) → From 1 (Q (s1 c))
+unfolding packetRow
+from1 c = next _ _ _ (sym (c .before .sound .ensures) ∙ not-false _ (c .if1 .left))
+
+from2 : (c : tie.Else2) → From 2 (Q (s2 c))
+unfolding packetRow
+from2 c = from1 (c .before .before .before) ∙ next _ _ _ (sym (c .before .sound2 .ensures) ∙ not-false _ (c .if2 .left))
+
+from3 : (c : tie.Else3) → From 3 (Q (s3 c))
+unfolding packetRow
+from3 c = from2 (c .before) ∙ next _ _ _ (eq-eqb _ _ (c .if3 .left))
+
+from4 : (c : tie.Else4) → From 4 (Q (s4 c))
+unfolding packetRow
+from4 c =
+    let effect = c .before .before in
+    let kind = effect .before in
+    from3 (kind .before .before) ∙ next _ _ _ (sym (effect .effect-of .ensures .0 ∙ ap isKind (kind-is kind)) ∙ not-false _ (c .if4 .left))
+
+from5 : (c : tie.Else5) → From 5 (Q (s4 (c .before)))
+unfolding packetRow
+from5 c = from4 (c .before) ∙ next _ _ _ (le-leb _ _ (c .if5 .left))
 
 returns : tie.Need-returns
-unfolding packetOf
-returns c = recv-out (P (c .before .before .before .before .before .before .before .before .before)) (c .before .before .before .before .before .before .before .before .before .args .recv .now) (c .before .before .before .before .before .before .before .before .before .args .send .now) (c .before .before .before .before .before .before .before .before .before .args .run .now) _ _ _ (sym (c .before .before .sound .ensures) ∙ not-true _ (c .before .if1 .taken)) (c .refuse .ensures .0) (c .refuse .ensures .1) (c .refuse .ensures .2)
+unfolding packetOf packetRow
+returns c =
+    let s = c .before .before .before .before .before .before .before .before .before in
+    let r = c .refuse .ensures in
+    refused (Q s) (sym (stop _ _ _ (sym (c .before .before .sound .ensures) ∙ not-true _ (c .before .if1 .taken)))) (λ e. omega arith) (r .0) (r .1) (r .2)
 
 returns-2 : tie.Need-returns-2
-unfolding packetOf
-returns-2 c = send-out (P (c .before .before .before .before .before .before .before .before .before .before .before .before)) (c .before .before .before .before .before .before .before .before .before .before .before .before .args .recv .now) (c .before .before .before .before .before .before .before .before .before .before .before .before .args .send .now) (c .before .before .before .before .before .before .before .before .before .before .before .before .args .run .now) (sym (c .before .before .before .before .before .sound .ensures) ∙ not-false _ (c .before .before .before .before .if1 .left)) _ _ _ (sym (c .before .before .sound2 .ensures) ∙ not-true _ (c .before .if2 .taken)) (c .refuse2 .ensures .0) (c .refuse2 .ensures .1) (c .refuse2 .ensures .2)
+unfolding packetOf packetRow
+returns-2 c =
+    let sends = c .before .before in
+    let recvs = sends .before .before in
+    let r = c .refuse2 .ensures in
+    refused (Q (s1 recvs)) (sym (from1 recvs ∙ stop _ _ _ (sym (sends .sound2 .ensures) ∙ not-true _ (c .before .if2 .taken)))) (λ e. omega arith) (r .0) (r .1) (r .2)
 
 returns-3 : tie.Need-returns-3
-unfolding packetOf
-returns-3 c = frame-out (P (c .before .before .before .before .before .before .before .before .before .before .before .before .before)) (c .before .before .before .before .before .before .before .before .before .before .before .before .before .args .recv .now) (c .before .before .before .before .before .before .before .before .before .before .before .before .before .args .send .now) (c .before .before .before .before .before .before .before .before .before .before .before .before .before .args .run .now) (sym (c .before .before .before .before .before .before .sound .ensures) ∙ not-false _ (c .before .before .before .before .before .if1 .left)) (sym (c .before .before .before .sound2 .ensures) ∙ not-false _ (c .before .before .if2 .left)) _ _ _ (c .before .if3 .taken) (c .refuse3 .ensures .0) (c .refuse3 .ensures .1) (c .refuse3 .ensures .2)
+unfolding packetOf packetRow
+returns-3 c =
+    let sound = c .before .before in
+    let r = c .refuse3 .ensures in
+    refused (Q (s2 sound)) (sym (from2 sound ∙ stop _ _ _ (ne-eqb _ _ (c .before .if3 .taken)))) (λ e. omega arith) (r .0) (r .1) (r .2)
 
 returns-4 : tie.Need-returns-4
-unfolding packetOf
-returns-4 c = kind-out (P (c .before .before .before .before .before .before .before .before .before .before .before .before .before .before .before)) (c .before .before .before .before .before .before .before .before .before .before .before .before .before .before .before .args .recv .now) (c .before .before .before .before .before .before .before .before .before .before .before .before .before .before .before .args .send .now) (c .before .before .before .before .before .before .before .before .before .before .before .before .before .before .before .args .run .now) (sym (c .before .before .before .before .before .before .before .before .sound .ensures) ∙ not-false _ (c .before .before .before .before .before .before .before .if1 .left)) (sym (c .before .before .before .before .before .sound2 .ensures) ∙ not-false _ (c .before .before .before .before .if2 .left)) (c .before .before .before .if3 .left) _ _ _ (sym (c .before .before .has-kind .ensures) ∙ not-true _ (c .before .if4 .taken)) (c .refuse4 .ensures .0) (c .refuse4 .ensures .1) (c .refuse4 .ensures .2)
+unfolding packetOf packetRow
+returns-4 c =
+    let effect = c .before .before .before in
+    let kind = effect .before in
+    let framed = kind .before .before in
+    let r = c .refuse4 .ensures in
+    refused (Q (s3 framed)) (sym (from3 framed ∙ stop _ _ _ (sym (effect .effect-of .ensures .0 ∙ ap isKind (kind-is kind)) ∙ not-true _ (c .before .if4 .taken)))) (λ e. omega arith)
+    (r .0) (r .1) (r .2)
 
 returns-5 : tie.Need-returns-5
-unfolding packetOf
-returns-5 c = room-out (P (c .before .before .before .before .before .before .before .before .before .before .before .before .before .before .before .before)) (c .before .before .before .before .before .before .before .before .before .before .before .before .before .before .before .before .args .recv .now) (c .before .before .before .before .before .before .before .before .before .before .before .before .before .before .before .before .args .send .now) (c .before .before .before .before .before .before .before .before .before .before .before .before .before .before .before .before .args .run .now) (sym (c .before .before .before .before .before .before .before .before .before .sound .ensures) ∙ not-false _ (c .before .before .before .before .before .before .before .before .if1 .left)) (sym (c .before .before .before .before .before .before .sound2 .ensures) ∙ not-false _ (c .before .before .before .before .before .if2 .left)) (c .before .before .before .before .if3 .left) (sym (c .before .before .before .has-kind .ensures) ∙ not-false _ (c .before .before .if4 .left)) _ _ _ (c .before .if5 .taken) (c .refuse5 .ensures .0) (c .refuse5 .ensures .1) (c .refuse5 .ensures .2)
+unfolding packetOf packetRow
+returns-5 c =
+    let known = c .before .before in
+    let r = c .refuse5 .ensures in
+    refused (Q (s4 known)) (sym (from4 known ∙ stop _ _ _ (lt-leb _ _ (c .before .if5 .taken)))) (λ e. omega arith) (r .0) (r .1) (r .2)
+
+-- what the step left
+abbrev accepted : tie.After-step → tie.Else4
+accepted c = c .before .before .before .before .before .before
+
+abbrev effect-at : tie.After-step → tie.After-effect-of
+effect-at c = accepted c .before .before
 
 step-requires : tie.Need-step-requires
-step-requires c κs = ((sym (c .before .before .before .before .before .before .before .before .before .before .sound .ensures) ∙ not-false _ (c .before .before .before .before .before .before .before .before .before .if1 .left)), (sym (c .before .before .before .before .before .before .before .sound2 .ensures) ∙ not-false _ (c .before .before .before .before .before .before .if2 .left)), (c .before .before .before .before .before .if3 .left))
+step-requires c κs =
+    let framed = c .before .before .before .before .before .before .before .before .before .before in
+    let sends = framed .before in
+    let recvs = sends .before .before .before in (
+      sym (recvs .before .sound .ensures) ∙ not-false _ (recvs .if1 .left),
+      sym (sends .before .sound2 .ensures) ∙ not-false _ (sends .if2 .left),
+      framed .if3 .left,
+    )
 
 returns-6 : tie.Need-returns-6
-unfolding packetOf
-returns-6 c = step-out (P (c .before .before .before .before .before .before .before .before .before .before .before .before .before .before .before .before .before .before .before .before .before .before .before .before)) (c .before .before .before .before .before .before .before .before .before .before .before .before .before .before .before .before .before .before .before .before .before .before .before .before .args .recv .now) (c .before .before .before .before .before .before .before .before .before .before .before .before .before .before .before .before .before .before .before .before .before .before .before .before .args .send .now) (c .before .before .before .before .before .before .before .before .before .before .before .before .before .before .before .before .before .before .before .before .before .before .before .before .args .run .now) (sym (c .before .before .before .before .before .before .before .before .before .before .before .before .before .before .before .before .before .sound .ensures) ∙ not-false _ (c .before .before .before .before .before .before .before .before .before .before .before .before .before .before .before .before .if1 .left)) (sym (c .before .before .before .before .before .before .before .before .before .before .before .before .before .before .sound2 .ensures) ∙ not-false _ (c .before .before .before .before .before .before .before .before .before .before .before .before .before .if2 .left)) (c .before .before .before .before .before .before .before .before .before .before .before .before .if3 .left) (sym (c .before .before .before .before .before .before .before .before .before .before .before .has-kind .ensures) ∙ not-false _ (c .before .before .before .before .before .before .before .before .before .before .if4 .left)) (c .before .before .before .before .before .before .before .before .before .if5 .left) _ _ _ (c .before .before .before .before .before .before .step .ensures) _ _ _ (c .before .if6 .taken) (c .refuse6 .ensures .0) (c .refuse6 .ensures .1) (c .refuse6 .ensures .2)
+unfolding packetOf packetRow
+returns-6 c =
+    let step = c .before .before .before .before .before .before in
+    let room = step .before .before .before .before .before in
+    let r = c .refuse6 .ensures in
+    let q : Call = Q (s4 (room .before)) in
+    step-out q (from5 room) (step .step .ensures ∙ ap (λ (k : Kind). bothOf k (q .packet) (q .recv) (q .send)) (kind-is (effect-at step .before))) (c .before .if6 .taken) (r .0) (r .1) (r .2)
+
+reply-requires : tie.Need-reply-requires
+reply-requires c κs =
+    let step = c .before .before .before .before .before .before in
+    let room = step .before .before .before .before .before in
+    let effect = effect-at step in
+    ((kind (Q (s4 (room .before)) .packet), effect .effect-of .ensures .1 ∙ ap replyBytes (kind-is (effect .before))), effect .before .before .before .if3 .left, room .if5 .left)
 
 returns-7 : tie.Need-returns-7
-unfolding packetOf
+unfolding packetOf packetRow
 returns-7 c =
-    let s = same-out (kind (P (c .before .before .before .before .before .before .before .before .before .before .before .before .before .before .before .before .before .before .before .before .before .before .before .before .before .before .before .before))) (c .before .before .before .before .before .before .before .before .before .before .before .before .before .before .before .before .before .before .before .before .before .before .before .before .before .before .before .before .args .frame .now) (c .before .before .before .before .before .before .before .before .before .before .before .before .before .before .before .before .before .before .before .before .before .before .before .before .before .before .before .before .args .from .now) (c .before .before .before .before .before .before .before .before .before .before .before .before .before .before .before .before .before .before .before .before .before .before .before .before .before .before .before .before .args .to .now) (c .before .before .before .before .before .before .before .before .before .before .before .before .before .before .before .before .before .before .before .before .before .before .before .before .before .before .before .before .args .rules .now) (c .before .before .before .before .before .before .before .before .before .before .before .before .before .before .before .before .before .before .before .before .before .before .before .before .before .before .before .before .args .known) in
-    done-out (P (c .before .before .before .before .before .before .before .before .before .before .before .before .before .before .before .before .before .before .before .before .before .before .before .before .before .before .before .before)) (c .before .before .before .before .before .before .before .before .before .before .before .before .before .before .before .before .before .before .before .before .before .before .before .before .before .before .before .before .args .recv .now) (c .before .before .before .before .before .before .before .before .before .before .before .before .before .before .before .before .before .before .before .before .before .before .before .before .before .before .before .before .args .send .now) (c .before .before .before .before .before .before .before .before .before .before .before .before .before .before .before .before .before .before .before .before .before .before .before .before .before .before .before .before .args .run .now) (sym (c .before .before .before .before .before .before .before .before .before .before .before .before .before .before .before .before .before .before .before .before .before .sound .ensures) ∙ not-false _ (c .before .before .before .before .before .before .before .before .before .before .before .before .before .before .before .before .before .before .before .before .if1 .left)) (sym (c .before .before .before .before .before .before .before .before .before .before .before .before .before .before .before .before .before .before .sound2 .ensures) ∙ not-false _ (c .before .before .before .before .before .before .before .before .before .before .before .before .before .before .before .before .before .if2 .left)) (c .before .before .before .before .before .before .before .before .before .before .before .before .before .before .before .before .if3 .left) (sym (c .before .before .before .before .before .before .before .before .before .before .before .before .before .before .before .has-kind .ensures) ∙ not-false _ (c .before .before .before .before .before .before .before .before .before .before .before .before .before .before .if4 .left)) (c .before .before .before .before .before .before .before .before .before .before .before .before .before .if5 .left) _ _ _ (c .before .before .before .before .before .before .before .before .before .before .step .ensures) _ _ _ (c .before .before .before .before .before .if6 .left)
-    (c .before .before .reply .ensures .0 ∙ ap length s) (c .before .before .before .before .wake-mark .ensures) (c .before .before .reply .ensures .1 ∙ ap (put (c .before .before .before .before .before .before .before .before .before .before .before .before .before .before .before .before .before .before .before .before .before .before .before .before .before .before .before .before .args .run .now) 0) s)
+    let reply = c .before .before in
+    let done = reply .before .before in
+    let step = done .before .before .before .before .before in
+    let room = step .before .before .before .before .before in
+    let effect = effect-at step in
+    let q : Call = Q (s4 (room .before)) in
+    let p = q .packet in
+    let e = effect .effect-of .ensures in
+    let k = kind-is (effect .before) in
+    let o = ap (λ (n : ℕ). replyOut n (p .frame) (p .from) (p .to)) (e .1 ∙ ap replyBytes k) in
+    done-out q (from5 room) (step .step .ensures ∙ ap (λ (k : Kind). bothOf k p (q .recv) (q .send)) k) (done .if6 .left)
+    (reply .reply .ensures .0 ∙ ap length o) (e .2 ∙ ap kindWake k) (reply .reply .ensures .1 ∙ ap (put (q .out) 0) o)
 
 pub packet-spec : {M : Type 1} → statement M
 packet-spec =
     tie.close
-    (tie.spec (λ c κs. search needs) (λ c κs. search needs) (λ c. search needs) returns (λ c κs. search needs) (λ c κs. search needs) (λ c. search needs) (λ c. search needs) returns-2 (λ c κs. search needs) (λ c. search needs) (λ c. search needs) returns-3 (λ c κs. search needs) (λ c κs. search needs) (λ c. search needs) (λ c. search needs) returns-4 (λ c κs. search needs) (λ c. search needs) (λ c. search needs) returns-5 step-requires (λ c κs. search needs) (λ c. search needs) (λ c. search needs) returns-6 (λ c κs. search needs) (λ c κs. search needs) (λ c. search needs) (λ c. search needs) (λ c. search needs) returns-7)
+    (tie.spec
+    (λ c κs. search needs) (λ c κs. search needs) (λ c. search needs) returns
+    (λ c κs. search needs) (λ c κs. search needs) (λ c. search needs) (λ c. search needs) returns-2
+    (λ c κs. search needs) (λ c. search needs) (λ c. search needs) returns-3
+    (λ c κs. search needs) (λ c κs. search needs) (λ c κs. search needs) (λ c κs. search needs) (λ c. search needs) (λ c. search needs) returns-4
+    (λ c κs. search needs) (λ c. search needs) (λ c. search needs) returns-5
+    step-requires (λ c κs. search needs) (λ c. search needs) (λ c. search needs) returns-6
+    reply-requires (λ c. search needs) (λ c. search needs) (λ c. search needs) returns-7)

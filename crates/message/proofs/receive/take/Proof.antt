@@ -1,6 +1,9 @@
 -- Assumes nothing.
-use mathlib.Core.Path.{sym, _∙_}
+use mathlib.Core.Path.{_≡_, sym, _∙_}
+use mathlib.Core.Bool.{true}
 use borrow.Author.Tests.{not-true, not-false}
+use Rattle.machine.specs.Codes.{roleReceive}
+use Rattle.machine.specs.Sound.{sound}
 use Rattle.message.proofs.Takes.{unsound, is-sound}
 use borrow.Author.Needs.{needs}
 use Rattle.message.proofs.receive.take.Statement.{statement}
@@ -9,13 +12,18 @@ use Rattle.message.proofs.receive.take.Tie as tie
 returns : tie.Need-returns
 returns c = let a = c .refuse .ensures in unsound _ _ _ _ _ _ (sym (c .before .before .sound .ensures) ∙ not-true _ (c .before .if1 .taken)) (a .0) (a .1) (a .2)
 
+-- the store is sound
+sounds : (c : tie.Else1) → sound roleReceive (c .before .before .before .before .before .before .args .recv .now) ≡ true
+sounds c = sym (c .before .sound .ensures) ∙ not-false _ (c .if1 .left)
+
 take-requires : tie.Need-take-requires
-take-requires c κs = sym (c .before .before .before .before .sound .ensures) ∙ not-false _ (c .before .before .before .if1 .left)
+take-requires c κs = sounds (c .before .before .before)
 
 returns-2 : tie.Need-returns-2
-returns-2 c = c .before .before .before .before .before .before .take .ensures ∙ is-sound _ _ _ (sym (c .before .before .before .before .before .before .before .before .before .before .before .sound .ensures) ∙ not-false _ (c .before .before .before .before .before .before .before .before .before .before .if1 .left))
+returns-2 c = let done = c .before .before .before .before .before .before in done .take .ensures ∙ is-sound _ _ _ (sounds (done .before .before .before .before))
 
 pub take-spec : {M : Type 1} → statement M
 take-spec =
     tie.close
-    (tie.spec (λ c κs. search needs) (λ c κs. search needs) (λ c. search needs) returns take-requires (λ c. search needs) (λ c. search needs) (λ c. search needs) returns-2)
+    (tie.spec (λ c κs. search needs) (λ c κs. search needs) (λ c. search needs) returns take-requires (λ c. search needs) (λ c. search needs)
+    (λ c. search needs) returns-2)

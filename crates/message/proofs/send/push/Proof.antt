@@ -1,28 +1,69 @@
 -- Assumes nothing.
-use mathlib.Core.Path.{sym, _∙_}
+use mathlib.Core.Path.{_≡_, sym, ap, _∙_}
+use mathlib.Core.Bool.{true}
+use lib.ListN.{length}
 use borrow.Author.Tests.{not-true, not-false}
-use Rattle.machine.specs.Push.{Push, pushOf, pushed}
-use Rattle.message.proofs.Sends.{push-unsound, push-sound}
+use Rattle.packet.specs.declared.label.Label as carried
+use Rattle.machine.specs.Codes.{roleSend}
+use Rattle.machine.specs.Layout.{decode}
+use Rattle.machine.specs.Sound.{sound}
+use Rattle.machine.specs.Refusals.{refusal}
+use Rattle.machine.specs.Outcomes.{SendOutcome, sendAt}
+use Rattle.machine.specs.Send.{initOut}
+use Rattle.machine.specs.Push.{Push, pushLabel, pushTests, pushOf, pushed}
+use Rattle.outbox.specs.Pushing.{pushes, pushedInto}
+use Rattle.message.proofs.Sends.{push-unsound, push-sound, reply-same}
 use borrow.Author.Needs.{needs}
 use Rattle.message.proofs.send.push.Statement.{statement}
 use Rattle.message.proofs.send.push.Tie as tie
 
 -- what is pushed
-abbrev P : tie.Start → Push
-P s = pushed (s .args .id .now) (s .args .reply) (s .args .from .now) (s .args .to .now) (s .args .topic .now) (s .args .bytes .now) (s .args .created) (s .args .try-ms)
+abbrev what : tie.Start → Push
+what s = let a = s .args in pushed (a .id .now) (a .reply) (a .from .now) (a .to .now) (a .topic .now) (a .bytes .now) (a .created) (a .try-ms)
+
+abbrev start : tie.After-sound → tie.Start
+start c = c .before .before .before .before .before .before
+
+-- the store is sound
+abbrev begun : tie.Else1 → tie.Start
+begun c = start (c .before)
+
+sounds : (c : tie.Else1) → sound roleSend (begun c .args .send .now) ≡ true
+sounds c = sym (c .before .sound .ensures) ∙ not-false _ (c .if1 .left)
+
+-- what the call is answered, by the label that is pushed
+abbrev answered : tie.Start → carried.Label → SendOutcome
+answered s l =
+    let a = s .args in
+    let p : Push = pushes l (a .topic .now) (a .bytes .now) (a .created) (a .try-ms) in
+    let b = decode (a .send .now) in
+    sendAt (refusal (pushTests p b (length (a .run .now)))) (pushedInto p b) (initOut (pushLabel p)) (a .send .now) (a .run .now)
 
 returns : tie.Need-returns
 unfolding pushOf
-returns c = let a = c .refuse .ensures in push-unsound (P (c .before .before .before .before .before .before .before .before)) (c .before .before .before .before .before .before .before .before .args .send .now) (c .before .before .before .before .before .before .before .before .args .run .now) _ _ _ (sym (c .before .before .sound .ensures) ∙ not-true _ (c .before .if1 .taken)) (a .0) (a .1) (a .2)
+returns c =
+    let s = start (c .before .before) in
+    let e = c .refuse .ensures in
+    push-unsound (what s) (s .args .send .now) (s .args .run .now) _ _ _ (sym (c .before .before .sound .ensures) ∙ not-true _ (c .before .if1 .taken)) (e .0) (e .1) (e .2)
 
 push-requires : tie.Need-push-requires
-push-requires c κs = (sym (c .before .before .before .before .before .before .sound .ensures) ∙ not-false _ (c .before .before .before .before .before .if1 .left), search needs, search needs, search needs)
+push-requires c κs =
+    let made = c .before .before in
+    (sounds (made .before .before .before .before), made .labelled .ensures .1, ap (λ (l : carried.Label). l .total) (made .labelled .ensures .0))
 
 returns-2 : tie.Need-returns-2
 unfolding pushOf
-returns-2 c = c .before .before .before .before .push .ensures ∙ push-sound (P (c .before .before .before .before .before .before .before .before .before .before .before .before .before .before .before .before .before)) (c .before .before .before .before .before .before .before .before .before .before .before .before .before .before .before .before .before .args .send .now) (c .before .before .before .before .before .before .before .before .before .before .before .before .before .before .before .before .before .args .run .now) (sym (c .before .before .before .before .before .before .before .before .before .before .before .sound .ensures) ∙ not-false _ (c .before .before .before .before .before .before .before .before .before .before .if1 .left))
+returns-2 c =
+    let sent = c .before .before .before .before in
+    let made = sent .before .before .before in
+    let free = made .before .before .before .before in
+    let s = begun free in
+    sent .push .ensures ∙ ap (answered s) (made .labelled .ensures .0)
+    ∙ reply-same (what s) (s .args .send .now) (s .args .run .now)
+    ∙ push-sound (what s) (s .args .send .now) (s .args .run .now) (sounds free)
 
 pub push-spec : {M : Type 1} → statement M
 push-spec =
     tie.close
-    (tie.spec (λ c κs. search needs) (λ c κs. search needs) (λ c. search needs) returns push-requires (λ c. search needs) (λ c. search needs) returns-2)
+    (tie.spec (λ c κs. search needs) (λ c κs. search needs) (λ c. search needs) returns (λ c κs. search needs) push-requires (λ c. search needs)
+    (λ c. search needs) returns-2)

@@ -1,6 +1,9 @@
 -- Assumes nothing.
-use mathlib.Core.Path.{sym, _∙_}
+use mathlib.Core.Path.{_≡_, sym, _∙_}
+use mathlib.Core.Bool.{true}
 use borrow.Author.Tests.{not-true, not-false}
+use Rattle.machine.specs.Codes.{roleSend}
+use Rattle.machine.specs.Sound.{sound}
 use Rattle.message.proofs.Sends.{wake-unsound, wake-sound}
 use borrow.Author.Needs.{needs}
 use Rattle.message.proofs.send.wake.Statement.{statement}
@@ -9,11 +12,15 @@ use Rattle.message.proofs.send.wake.Tie as tie
 returns : tie.Need-returns
 returns c = let a = c .refuse .ensures in wake-unsound _ _ _ _ _ _ _ _ (sym (c .before .before .sound .ensures) ∙ not-true _ (c .before .if1 .taken)) (a .0) (a .1) (a .2)
 
+-- the store is sound
+sounds : (c : tie.Else1) → sound roleSend (c .before .before .before .before .before .args .send .now) ≡ true
+sounds c = sym (c .before .sound .ensures) ∙ not-false _ (c .if1 .left)
+
 wake-requires : tie.Need-wake-requires
-wake-requires c κs = sym (c .before .before .before .before .sound .ensures) ∙ not-false _ (c .before .before .before .if1 .left)
+wake-requires c κs = sounds (c .before .before .before)
 
 returns-2 : tie.Need-returns-2
-returns-2 c = c .before .before .before .before .wake .ensures ∙ wake-sound _ _ _ _ _ (sym (c .before .before .before .before .before .before .before .before .before .sound .ensures) ∙ not-false _ (c .before .before .before .before .before .before .before .before .if1 .left))
+returns-2 c = let done = c .before .before .before .before in done .wake .ensures ∙ wake-sound _ _ _ _ _ (sounds (done .before .before .before .before))
 
 pub wake-spec : {M : Type 1} → statement M
 wake-spec =

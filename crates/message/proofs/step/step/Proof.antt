@@ -1,43 +1,219 @@
--- One arm for each kind. Assumes nothing.
-use mathlib.Core.Path.{sym, _∙_}
-use Rattle.machine.specs.Packet.{Packet, arrival}
-use Rattle.message.proofs.Steps.{init-arm, chunk-arm, done-arm, read-arm, aborted-arm, ackInit-arm, ackChunk-arm, ackDone-arm, nothing-arm}
+-- One arm for each kind: its fields are read, and the step of its store is called. Assumes nothing.
+use Prim.Native.Nat.{ℕ, _<_}
+use native.Mathlib.Omega.{arith}
+use mathlib.Core.Path.{_≡_, refl, sym, ap, _∙_, subst}
+use mathlib.Core.List.{List, _++_}
+use lib.ListN.{length, getD}
+use Rattle.octets.specs.Octets.{part, Bytes}
+use Rattle.octets.specs.PartsLaws.{length-part, length-part-le, bytes-part}
+use Rattle.octets.specs.NumbersLaws.{num-lt}
+use Rattle.packet.specs.declared.label.Label as carried
+use Rattle.packet.specs.declared.header.Kind.the-variants.{Init, Chunk, Done, Read, Aborted, AckInit, AckChunk, AckDone}
+use Rattle.packet.specs.Frame.{has, replyFlag, initLength, chunkSize}
+use Rattle.machine.specs.Codes.{stateInit, stateInProgress, stateReceived, stateRead, yes}
+use Rattle.machine.specs.Layout.{numberLimit, decode}
+use Rattle.machine.specs.Receive.{found, initStep, chunkStep, doneStep, dropStep}
+use Rattle.machine.specs.Send.{change, withState, ackPiece}
+use Rattle.machine.specs.Refusals.{refusal, heldRow}
+use Rattle.machine.specs.Packet.{Packet, asked, isReply, chunkRow, doneRow, stateRow, ackChunkRow, kindRow, recvStep, sendStep, arrival, rulesRow, placeRow}
+use Rattle.store.specs.Opening.{newLabel}
+use Rattle.store.specs.Step.{stepped}
+use Rattle.message.proofs.Steps.{Stores, receives, sends}
 use borrow.Author.Needs.{needs}
 use Rattle.message.proofs.step.step.Statement.{statement}
 use Rattle.message.proofs.step.step.Tie as tie
 
--- the packet at the arguments
-abbrev P : tie.Start → Packet
-P s = arrival (s .args .frame .now) (s .args .from .now) (s .args .to .now) (s .args .rules .now) (s .args .known)
+-- the packet, the stores, and the id that was read
+abbrev start : tie.After-id → tie.Start
+start c = c .before .before .before .before .before
+
+abbrev P : tie.After-id → Packet
+P c = let a = start c .args in arrival (a .frame .now) (a .route .from) (a .route .to) (a .rules .now) (a .known)
+
+stores : (c : tie.After-id) → Stores (start c .args .recv .now) (start c .args .send .now)
+stores c =
+    let s = c .before .before .before in
+    record { recv-bytes = λ i. s .before .slice-known .given i .fits; send-bytes = λ i. s .slice-known2 .given i .fits; recv = start c .pre .0; send = start c .pre .1 }
+
+-- what an init says was read
+abbrev read : tie.After-length → tie.After-id
+read c = c .before .before .before .before .before .before .before .before .before
+
+labelled-requires : tie.Need-labelled-requires
+labelled-requires c κs =
+    let id = read c in
+    (ap length (id .id .ensures) ∙ length-part (start id .args .frame .now) 0 8 (omega (arith, start id .pre .2)), search needs, search needs)
+
+-- what an init says, as the code carries it
+abbrev said : tie.After-id → carried.Label
+said c = let p = P c in record { id = asked p; source = p .from; destination = p .to; reply = isReply p; total = initLength (p .frame) }
+
+label-is : (c : tie.After-labelled) → c .labelled .result ≡ said (read (c .before))
+label-is c =
+    let total = c .before in
+    let reply = total .before .before .before in
+    let a = start (read total) .args in
+    c .labelled .ensures .0
+    ∙ (λ i. record {
+      id = read total .id .ensures i;
+      source = a .route .from;
+      destination = a .route .to;
+      reply = (reply .is-reply .ensures ∙ ap (λ (f : ℕ). has f replyFlag) (reply .before .flags .ensures)) i;
+      total = total .length .ensures i;
+    })
+
+frame-bytes : (c : tie.After-id) → Bytes (start c .args .frame .now)
+frame-bytes c i = c .before .before .shared-slice-known .given i .fits
+
+init-requires : tie.Need-init-requires
+init-requires c κs =
+    let made = c .before .before in
+    let id = read (made .before) in
+    let f = start id .args .frame .now in
+    let y = frame-bytes id in
+    let n = made .labelled .ensures .1 in (
+      start id .pre .0,
+      record {
+        id = n .id;
+        source = n .source;
+        destination = n .destination;
+        total = subst (λ (x : ℕ). x < numberLimit) (sym (ap (λ (l : carried.Label). l .total) (label-is made))) (num-lt 8 (part f 12 8) (bytes-part f 12 8 y));
+        topic = (
+          omega (arith, ap length (c .topic .ensures), length-part-le f 21 (getD f 20 0), y 20),
+          subst Bytes (sym (c .topic .ensures)) (bytes-part f 21 (getD f 20 0) y),
+        );
+      },
+    )
+
+chunk-requires : tie.Need-chunk-requires
+chunk-requires c κs =
+    let piece = c .before in
+    let s = start (piece .before .before .before .before .before) in
+    (s .pre .0, omega (arith, ap length (piece .piece .ensures), length-part-le (s .args .frame .now) 36 (chunkSize (s .args .frame .now))))
 
 returns : tie.Need-returns
-returns c = init-arm (P (c .before .before .before .before .before .before .before .before .before .before .before)) (c .before .before .before .before .before .before .before .before .before .before .before .args .recv .now) (c .before .before .before .before .before .before .before .before .before .before .before .args .send .now) (λ i. c .before .before .before .before .before .before .before .before .before .before .slice-known .given i .fits) (λ i. c .before .before .before .before .before .before .before .before .before .slice-known2 .given i .fits) (c .before .before .before .before .before .before .before .before .before .before .before .pre .0) (c .before .before .before .before .before .before .before .before .before .before .before .pre .1) _ _ (sym (c .before .before .before .before .before .before .kind-in .ensures) ∙ c .before .before .before .before .enum-told .given .1) (c .before .before .init .ensures)
+unfolding kindRow recvStep sendStep
+returns c =
+    let init = c .before .before in
+    let topic = init .before in
+    let made = topic .before .before in
+    let told = made .before .before .before .before .before .before .before .before in
+    let id = read (made .before) in
+    let a = start id .args in
+    let b : List ℕ = a .recv .now in
+    let l = label-is made in
+    let t = topic .topic .ensures in
+    receives (P id) (stores id) Init (told .enum-told .given .1) refl
+    (init .init .ensures
+    ∙ (λ j. stepped (refusal (rulesRow (l j .reply) (l j .source) (t j) (a .rules .now) ++ placeRow (l j .id) (l j .total) (decode b) (found (l j .id) (decode b .held))))
+    (initStep (newLabel (l j) (t j)) (decode b)) b))
 
 returns-2 : tie.Need-returns-2
-returns-2 c = chunk-arm (P (c .before .before .before .before .before .before .before .before .before .before .before)) (c .before .before .before .before .before .before .before .before .before .before .before .args .recv .now) (c .before .before .before .before .before .before .before .before .before .before .before .args .send .now) (λ i. c .before .before .before .before .before .before .before .before .before .before .slice-known .given i .fits) (λ i. c .before .before .before .before .before .before .before .before .before .slice-known2 .given i .fits) (c .before .before .before .before .before .before .before .before .before .before .before .pre .0) (c .before .before .before .before .before .before .before .before .before .before .before .pre .1) _ _ (sym (c .before .before .before .before .before .before .kind-in .ensures) ∙ c .before .before .before .before .enum-told2 .given .1) (c .before .before .chunk .ensures)
+unfolding kindRow recvStep sendStep
+returns-2 c =
+    let chunk = c .before .before in
+    let piece = chunk .before .before in
+    let offset = piece .before in
+    let index = offset .before in
+    let told = index .before in
+    let id = told .before .before in
+    let s = start id in
+    let b : List ℕ = s .args .recv .now in
+    let f : List ℕ = s .args .frame .now in
+    let k = id .id .ensures in
+    let i = index .index .ensures in
+    let x = piece .piece .ensures in
+    let z = ap length x ∙ length-part f 36 (chunkSize f) (omega (arith, s .pre .2)) in
+    receives (P id) (stores id) Chunk (told .enum-told2 .given .1) refl
+    (chunk .chunk .ensures
+    ∙ (λ j. stepped (refusal (chunkRow (i j) (offset .offset .ensures j) (z j) (decode b) (found (k j) (decode b .held)))) (chunkStep (k j) (i j) (x j) (decode b)) b))
 
 returns-3 : tie.Need-returns-3
-returns-3 c = done-arm (P (c .before .before .before .before .before .before .before .before .before .before .before)) (c .before .before .before .before .before .before .before .before .before .before .before .args .recv .now) (c .before .before .before .before .before .before .before .before .before .before .before .args .send .now) (λ i. c .before .before .before .before .before .before .before .before .before .before .slice-known .given i .fits) (λ i. c .before .before .before .before .before .before .before .before .before .slice-known2 .given i .fits) (c .before .before .before .before .before .before .before .before .before .before .before .pre .0) (c .before .before .before .before .before .before .before .before .before .before .before .pre .1) _ _ (sym (c .before .before .before .before .before .before .kind-in .ensures) ∙ c .before .before .before .before .enum-told3 .given .1) (c .before .before .done .ensures)
+unfolding kindRow recvStep sendStep
+returns-3 c =
+    let done = c .before .before in
+    let sum = done .before .before in
+    let count = sum .before in
+    let told = count .before in
+    let id = told .before .before in
+    let a = start id .args in
+    let b : List ℕ = a .recv .now in
+    let k = id .id .ensures in
+    receives (P id) (stores id) Done (told .enum-told3 .given .1) refl
+    (done .done .ensures
+    ∙ (λ j. stepped (refusal (doneRow (count .count .ensures j) (sum .sum .ensures j) (yes (a .known)) (found (k j) (decode b .held)))) (doneStep (k j) (decode b)) b))
 
 returns-4 : tie.Need-returns-4
-returns-4 c = read-arm (P (c .before .before .before .before .before .before .before .before .before .before .before)) (c .before .before .before .before .before .before .before .before .before .before .before .args .recv .now) (c .before .before .before .before .before .before .before .before .before .before .before .args .send .now) (λ i. c .before .before .before .before .before .before .before .before .before .before .slice-known .given i .fits) (λ i. c .before .before .before .before .before .before .before .before .before .slice-known2 .given i .fits) (c .before .before .before .before .before .before .before .before .before .before .before .pre .0) (c .before .before .before .before .before .before .before .before .before .before .before .pre .1) _ _ (sym (c .before .before .before .before .before .before .kind-in .ensures) ∙ c .before .before .before .before .enum-told4 .given .1) (c .before .before .advance .ensures)
+unfolding kindRow recvStep sendStep
+returns-4 c =
+    let told = c .before .before .before .before in
+    let id = told .before .before in
+    let b : List ℕ = start id .args .send .now in
+    let k = id .id .ensures in
+    sends (P id) (stores id) Read (told .enum-told4 .given .1) refl
+    (c .before .before .advance .ensures ∙ (λ j. stepped (refusal (stateRow stateReceived (found (k j) (decode b .held)))) (change (withState stateRead) (k j) (decode b)) b))
 
 returns-5 : tie.Need-returns-5
-returns-5 c = aborted-arm (P (c .before .before .before .before .before .before .before .before .before .before .before)) (c .before .before .before .before .before .before .before .before .before .before .before .args .recv .now) (c .before .before .before .before .before .before .before .before .before .before .before .args .send .now) (λ i. c .before .before .before .before .before .before .before .before .before .before .slice-known .given i .fits) (λ i. c .before .before .before .before .before .before .before .before .before .slice-known2 .given i .fits) (c .before .before .before .before .before .before .before .before .before .before .before .pre .0) (c .before .before .before .before .before .before .before .before .before .before .before .pre .1) _ _ (sym (c .before .before .before .before .before .before .kind-in .ensures) ∙ c .before .before .before .before .enum-told5 .given .1) (c .before .before .abort .ensures)
+unfolding kindRow recvStep sendStep
+returns-5 c =
+    let told = c .before .before .before .before in
+    let id = told .before .before in
+    let b : List ℕ = start id .args .recv .now in
+    let k = id .id .ensures in
+    receives (P id) (stores id) Aborted (told .enum-told5 .given .1) refl
+    (c .before .before .abort .ensures ∙ (λ j. stepped (refusal (heldRow (found (k j) (decode b .held)))) (dropStep (k j) (decode b)) b))
 
 returns-6 : tie.Need-returns-6
-returns-6 c = ackInit-arm (P (c .before .before .before .before .before .before .before .before .before .before .before)) (c .before .before .before .before .before .before .before .before .before .before .before .args .recv .now) (c .before .before .before .before .before .before .before .before .before .before .before .args .send .now) (λ i. c .before .before .before .before .before .before .before .before .before .before .slice-known .given i .fits) (λ i. c .before .before .before .before .before .before .before .before .before .slice-known2 .given i .fits) (c .before .before .before .before .before .before .before .before .before .before .before .pre .0) (c .before .before .before .before .before .before .before .before .before .before .before .pre .1) _ _ (sym (c .before .before .before .before .before .before .kind-in .ensures) ∙ c .before .before .before .before .enum-told6 .given .1) (c .before .before .advance2 .ensures)
+unfolding kindRow recvStep sendStep
+returns-6 c =
+    let told = c .before .before .before .before in
+    let id = told .before .before in
+    let b : List ℕ = start id .args .send .now in
+    let k = id .id .ensures in
+    sends (P id) (stores id) AckInit (told .enum-told6 .given .1) refl
+    (c .before .before .advance2 .ensures ∙ (λ j. stepped (refusal (stateRow stateInit (found (k j) (decode b .held)))) (change (withState stateInProgress) (k j) (decode b)) b))
 
 returns-7 : tie.Need-returns-7
-returns-7 c = ackChunk-arm (P (c .before .before .before .before .before .before .before .before .before .before .before)) (c .before .before .before .before .before .before .before .before .before .before .before .args .recv .now) (c .before .before .before .before .before .before .before .before .before .before .before .args .send .now) (λ i. c .before .before .before .before .before .before .before .before .before .before .slice-known .given i .fits) (λ i. c .before .before .before .before .before .before .before .before .before .slice-known2 .given i .fits) (c .before .before .before .before .before .before .before .before .before .before .before .pre .0) (c .before .before .before .before .before .before .before .before .before .before .before .pre .1) _ _ (sym (c .before .before .before .before .before .before .kind-in .ensures) ∙ c .before .before .before .before .enum-told7 .given .1) (c .before .before .ack-chunk .ensures)
+unfolding kindRow recvStep sendStep
+returns-7 c =
+    let ack = c .before .before in
+    let index = ack .before in
+    let told = index .before .before in
+    let id = told .before .before in
+    let b : List ℕ = start id .args .send .now in
+    let k = id .id .ensures in
+    let i = index .index2 .ensures in
+    sends (P id) (stores id) AckChunk (told .enum-told7 .given .1) refl
+    (ack .ack-chunk .ensures ∙ (λ j. stepped (refusal (ackChunkRow (i j) (found (k j) (decode b .held)))) (change (ackPiece (i j)) (k j) (decode b)) b))
 
 returns-8 : tie.Need-returns-8
-returns-8 c = ackDone-arm (P (c .before .before .before .before .before .before .before .before .before .before .before)) (c .before .before .before .before .before .before .before .before .before .before .before .args .recv .now) (c .before .before .before .before .before .before .before .before .before .before .before .args .send .now) (λ i. c .before .before .before .before .before .before .before .before .before .before .slice-known .given i .fits) (λ i. c .before .before .before .before .before .before .before .before .before .slice-known2 .given i .fits) (c .before .before .before .before .before .before .before .before .before .before .before .pre .0) (c .before .before .before .before .before .before .before .before .before .before .before .pre .1) _ _ (sym (c .before .before .before .before .before .before .kind-in .ensures) ∙ c .before .before .before .before .enum-told8 .given .1) (c .before .before .advance3 .ensures)
+unfolding kindRow recvStep sendStep
+returns-8 c =
+    let told = c .before .before .before .before in
+    let id = told .before .before in
+    let b : List ℕ = start id .args .send .now in
+    let k = id .id .ensures in
+    sends (P id) (stores id) AckDone (told .enum-told8 .given .1) refl
+    (c .before .before .advance3 .ensures ∙ (λ j. stepped (refusal (stateRow stateInProgress (found (k j) (decode b .held)))) (change (withState stateReceived) (k j) (decode b)) b))
 
 returns-9 : tie.Need-returns-9
-returns-9 c = nothing-arm (P (c .before .before .before .before .before .before .before)) (c .before .before .before .before .before .before .before .args .recv .now) (c .before .before .before .before .before .before .before .args .send .now) (sym (c .before .before .kind-in .ensures) ∙ c .enum-told9 .given .1)
+unfolding kindRow refusal
+returns-9 c = rw (c .enum-told9 .given .1)
 
 pub step-spec : {M : Type 1} → statement M
 step-spec =
     tie.close
-    (tie.spec (λ c κs. search needs) (λ c. search needs) (λ c κs. search needs) (λ c. search needs) (λ c κs. search needs) (λ c. search needs) (λ c κs. search needs) (λ c. search needs) (λ c κs. search needs) (λ c. search needs) (λ c κs. search needs) (λ c. search needs) (λ c κs. search needs) (λ c. search needs) (λ c κs. search needs) (λ c. search needs) (λ c κs. search needs) (λ c. search needs) (λ c. search needs) returns (λ c. search needs) returns-2 (λ c. search needs) returns-3 (λ c. search needs) returns-4 (λ c. search needs) returns-5 (λ c. search needs) returns-6 (λ c. search needs) returns-7 (λ c. search needs) returns-8 returns-9)
+    (tie.spec
+    (λ c κs. search needs)
+    (λ c. search needs) (λ c κs. search needs) (λ c κs. search needs) (λ c. search needs) (λ c. search needs) (λ c κs. search needs) labelled-requires
+    (λ c κs. search needs) init-requires
+    (λ c. search needs) (λ c κs. search needs) (λ c κs. search needs) (λ c κs. search needs) chunk-requires
+    (λ c. search needs) (λ c κs. search needs) (λ c κs. search needs) (λ c κs. search needs)
+    (λ c. search needs) (λ c κs. search needs)
+    (λ c. search needs) (λ c κs. search needs)
+    (λ c. search needs) (λ c κs. search needs)
+    (λ c. search needs) (λ c κs. search needs) (λ c κs. search needs)
+    (λ c. search needs) (λ c κs. search needs)
+    (λ c. search needs)
+    (λ c. search needs) returns (λ c. search needs) returns-2 (λ c. search needs) returns-3 (λ c. search needs) returns-4 (λ c. search needs) returns-5
+    (λ c. search needs) returns-6 (λ c. search needs) returns-7 (λ c. search needs) returns-8 returns-9)

@@ -1,81 +1,96 @@
 -- Assumes nothing.
+use Prim.Native.Nat.{ℕ}
 use native.Mathlib.Omega.{arith}
-use mathlib.Core.Path.{refl}
-use Rattle.machine.specs.Codes.{roleSend}
-use Rattle.machine.specs.Send.{ackPiece}
+use mathlib.Core.Path.{_≡_, sym, ap, _∙_}
+use mathlib.Core.List.{[], _∷_}
+use lib.ListN.{length, drop}
+use lib.Dec.{eqb, ltb}
+use borrow.Author.Tests.{eq-eqb, ne-eqb, lt-ltb, le-ltb}
+use Rattle.machine.specs.Codes.{roleSend, stateInProgress, wrongState, noSuchPiece}
+use Rattle.machine.specs.Layout.{recOf, decode}
+use Rattle.machine.specs.Receive.{found}
+use Rattle.machine.specs.Refusals.{refusal}
 use Rattle.machine.specs.Packet.{ackChunkRow}
-use Rattle.store.specs.RefuseLaws.{refused, done}
-use Rattle.outbox.proofs.Sought.{unknown, known, known-held, known-reached, known-key}
-use Rattle.outbox.proofs.States.{not-in-progress, no-piece, some-piece, at-key, acked-is}
+use Rattle.store.specs.HeldAt.{recIn}
+use Rattle.store.specs.RefuseLaws.{next, stop, clear}
+use Rattle.store.specs.SearchLaws.{Search, ended, here, own-key, none-met, asks-met, number-is}
+use Rattle.outbox.specs.Leaves.{Here}
+use Rattle.outbox.specs.HereLaws as leaves
 use borrow.Author.Needs.{needs}
 use Rattle.outbox.proofs.acks.ack_chunk.Statement.{statement}
 use Rattle.outbox.proofs.acks.ack_chunk.Tie as tie
 
+-- the search for the id, and the record that it ended at
+abbrev start : tie.After-find-held → tie.Start
+start c = c .before .before .before .before
+
+searched : (c : tie.After-find-held) → Search roleSend (start c .args .send .now) (start c .args .id .now) (c .find-held .result)
+searched c = record { bytes = λ i. c .before .before .before .slice-known .given i .fits; sound = start c .pre; is = c .find-held .ensures .0 }
+
+abbrev found-at : tie.Else1 → tie.After-find-held
+found-at c = c .before .before
+
+there : (c : tie.Else1) → Here (start (found-at c) .args .send .now) (found-at c .find-held .result)
+there c = let h = searched (found-at c) in leaves.here (h .bytes) (here h (c .if1 .left))
+
+-- the row, and what it asks of the record
+abbrev row : tie.Start → ℕ
+row s = let a = s .args in refusal (ackChunkRow (a .index) (found (a .id .now) (decode (a .send .now) .held)))
+
+abbrev From : ℕ → tie.Else1 → Type 0
+From n c =
+    let f = found-at c in
+    let a = start f .args in
+    let r = recIn (a .send .now) (f .find-held .result) in
+    row (start f) ≡ refusal (drop n ((eqb (r .sending .state) stateInProgress, wrongState) ∷ (ltb (a .index) (length (r .cells)), noSuchPiece) ∷ []))
+
+from18 : (c : tie.Else1) → From 0 c
+from18 c = let h = searched (found-at c) in sym (number-is h _ (sym (asks-met (ended h) _ (c .if1 .left))))
+
+abbrev met-at : tie.Else2 → tie.Else1
+met-at c = c .before .before .before
+
+from19 : (c : tie.Else2) → From 1 (met-at c)
+unfolding recOf
+from19 c = from18 (met-at c) ∙ next _ _ _ (eq-eqb _ _ (sym (c .before .state .ensures) ∙ c .if2 .left))
+
 returns : tie.Need-returns
 returns c =
-    let slice = c .before .before .before .before .before .before in
-    let start = slice .before in
-    refused 8 _ _ _ (unknown _ (λ i. slice .slice-known .given i .fits) (start .pre .0) _ _ _ (c .before .before .find-held .ensures .0) (c .before .before .before .id .ensures) (ackChunkRow _) refl (c .if1 .taken)) (λ z. omega arith)
-
-state-requires : tie.Need-state-requires
-state-requires c κs =
-    let id = c .before .before .before .before in
-    let slice = id .before .before .before in
-    let start = slice .before in
-    known-reached _ (λ i. slice .slice-known .given i .fits) (start .pre .0) _ _ _ (c .before .before .before .find-held .ensures .0) (id .id .ensures) (c .before .if1 .left)
+    let at = c .before .before in
+    let h = searched at in
+    let e : row (start at) ≡ 8 = sym (number-is h _ (none-met (ended h) _ (c .if1 .taken))) in
+    rw e
 
 returns-2 : tie.Need-returns-2
+unfolding recOf
 returns-2 c =
-    let find-held = c .before .before .before .before .before in
-    let id = find-held .before in
-    let slice = id .before .before .before in
-    let start = slice .before in
-    refused 18 _ _ _ (not-in-progress _ _ _ (known _ (λ i. slice .slice-known .given i .fits) (start .pre .0) _ _ _ (find-held .find-held .ensures .0) (id .id .ensures) (c .before .before .before .if1 .left)) _ (c .before .state .ensures) _ (c .if2 .taken)) (λ z. omega arith)
-
-count-pieces-requires : tie.Need-count-pieces-requires
-count-pieces-requires c κs =
-    let else-1 = c .before .before .before .before .before in
-    let find-held = else-1 .before .before in
-    let id = find-held .before in
-    let slice = id .before .before .before in
-    let start = slice .before in
-    (roleSend, known-held _ (λ i. slice .slice-known .given i .fits) (start .pre .0) _ _ _ (find-held .find-held .ensures .0) (id .id .ensures) (else-1 .if1 .left))
+    let read = c .before in
+    rw (from18 (read .before .before) ∙ stop _ _ _ (ne-eqb _ _ (λ z. c .if2 .taken (read .state .ensures ∙ z))))
 
 returns-3 : tie.Need-returns-3
 returns-3 c =
-    let else-2 = c .before .before .before .before in
-    let state = else-2 .before in
-    let else-1 = state .before .before in
-    let find-held = else-1 .before .before in
-    let id = find-held .before in
-    let slice = id .before .before .before in
-    let start = slice .before in
-    refused 19 _ _ _ (no-piece _ _ _ (known _ (λ i. slice .slice-known .given i .fits) (start .pre .0) _ _ _ (find-held .find-held .ensures .0) (id .id .ensures) (else-1 .if1 .left)) _ (state .state .ensures) (else-2 .if2 .left) _ _ _ (c .before .before .before .index .ensures) (c .before .count-pieces .ensures) (c .if3 .taken)) (λ z. omega arith)
+    let count = c .before in
+    rw (from19 (count .before .before) ∙ stop _ _ _ (ap (ltb _) (sym (count .count-pieces .ensures)) ∙ le-ltb _ _ (c .if3 .taken)))
 
 ack-requires : tie.Need-ack-requires
 ack-requires c κs =
-    let else-1 = c .before .before .before .before .before .before .before .before in
-    let find-held = else-1 .before .before in
-    let id = find-held .before in
-    let slice = id .before .before .before in
-    let start = slice .before in
-    (known-held _ (λ i. slice .slice-known .given i .fits) (start .pre .0) _ _ _ (find-held .find-held .ensures .0) (id .id .ensures) (else-1 .if1 .left), omega (arith, c .before .if3 .left, c .before .before .count-pieces .ensures))
+    let count = c .before .before in
+    (there (met-at (count .before .before)) .held, omega (arith, c .before .if3 .left, count .count-pieces .ensures))
 
 returns-4 : tie.Need-returns-4
 returns-4 c =
-    let else-3 = c .before .before .before .before in
-    let count-pieces = else-3 .before in
-    let index = count-pieces .before .before in
-    let else-2 = index .before in
-    let state = else-2 .before in
-    let else-1 = state .before .before in
-    let find-held = else-1 .before .before in
-    let id = find-held .before in
-    let slice = id .before .before .before in
-    let start = slice .before in
-    done _ _ _ _ (some-piece _ _ _ (known _ (λ i. slice .slice-known .given i .fits) (start .pre .0) _ _ _ (find-held .find-held .ensures .0) (id .id .ensures) (else-1 .if1 .left)) _ (state .state .ensures) (else-2 .if2 .left) _ _ _ (index .index .ensures) (count-pieces .count-pieces .ensures) (else-3 .if3 .left)) (acked-is _ _ _ _ (index .index .ensures) (at-key (ackPiece _) _ _ _ _ (known-key _ (λ i. slice .slice-known .given i .fits) (start .pre .0) _ _ _ (find-held .find-held .ensures .0) (id .id .ensures) (else-1 .if1 .left)) (c .before .before .ack .ensures)))
+    let acked = c .before .before in
+    let fits = acked .before .before in
+    let count = fits .before in
+    let going = count .before .before in
+    let met = met-at going in
+    rw (
+      from19 going ∙ next _ _ _ (ap (ltb _) (sym (count .count-pieces .ensures)) ∙ lt-ltb _ _ (fits .if3 .left)) ∙ clear,
+      rw (own-key (searched (found-at met)) (met .if1 .left)) at (acked .ack .ensures),
+    )
 
 pub ack-chunk-spec : {M : Type 1} → statement M
 ack-chunk-spec =
     tie.close
-    (tie.spec (λ c κs. search needs) (λ c κs. search needs) (λ c. search needs) (λ c. search needs) returns state-requires (λ c. search needs) returns-2 (λ c κs. search needs) count-pieces-requires (λ c. search needs) returns-3 ack-requires (λ c. search needs) returns-4)
+    (tie.spec (λ c κs. search needs) (λ c. search needs) (λ c. search needs) returns (λ c κs. there (c .before) .reached) (λ c. search needs) returns-2
+    (λ c κs. (roleSend, there (met-at (c .before)) .held)) (λ c. search needs) returns-3 ack-requires (λ c. search needs) returns-4)

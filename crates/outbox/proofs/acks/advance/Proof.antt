@@ -1,57 +1,73 @@
 -- Assumes nothing.
-use native.Mathlib.Omega.{arith}
-use mathlib.Core.Path.{refl}
-use Rattle.machine.specs.Send.{withState}
+use Prim.Native.Nat.{ℕ}
+use mathlib.Core.Path.{_≡_, sym, _∙_}
+use mathlib.Core.List.{[], _∷_}
+use lib.Dec.{eqb}
+use borrow.Author.Tests.{eq-eqb, ne-eqb}
+use Rattle.machine.specs.Codes.{roleSend, wrongState}
+use Rattle.machine.specs.Layout.{recOf, decode}
+use Rattle.machine.specs.Receive.{found}
+use Rattle.machine.specs.Refusals.{refusal}
 use Rattle.machine.specs.Packet.{stateRow}
-use Rattle.store.specs.RefuseLaws.{refused, done}
-use Rattle.outbox.proofs.Sought.{unknown, known, known-held, known-reached, known-key}
-use Rattle.outbox.proofs.States.{wrong-state, right-state, at-key}
+use Rattle.store.specs.HeldAt.{recIn}
+use Rattle.store.specs.RefuseLaws.{next, stop, clear}
+use Rattle.store.specs.SearchLaws.{Search, ended, here, own-key, none-met, asks-met, number-is}
+use Rattle.outbox.specs.Leaves.{Here}
+use Rattle.outbox.specs.HereLaws as leaves
 use borrow.Author.Needs.{needs}
 use Rattle.outbox.proofs.acks.advance.Statement.{statement}
 use Rattle.outbox.proofs.acks.advance.Tie as tie
 
+-- the search for the id, and the record that it ended at
+abbrev start : tie.After-find-held → tie.Start
+start c = c .before .before .before .before
+
+searched : (c : tie.After-find-held) → Search roleSend (start c .args .send .now) (start c .args .id .now) (c .find-held .result)
+searched c = record { bytes = λ i. c .before .before .before .slice-known .given i .fits; sound = start c .pre .0; is = c .find-held .ensures .0 }
+
+abbrev found-at : tie.Else1 → tie.After-find-held
+found-at c = c .before .before
+
+there : (c : tie.Else1) → Here (start (found-at c) .args .send .now) (found-at c .find-held .result)
+there c = let h = searched (found-at c) in leaves.here (h .bytes) (here h (c .if1 .left))
+
+-- the row, and what it asks of the record
+abbrev row : tie.Start → ℕ
+row s = let a = s .args in refusal (stateRow (a .state) (found (a .id .now) (decode (a .send .now) .held)))
+
+from18 : (c : tie.Else1) → let f = found-at c in let a = start f .args in
+    row (start f) ≡ refusal ((eqb (recIn (a .send .now) (f .find-held .result) .sending .state) (a .state), wrongState) ∷ [])
+from18 c = let h = searched (found-at c) in sym (number-is h _ (sym (asks-met (ended h) _ (c .if1 .left))))
+
 returns : tie.Need-returns
 returns c =
-    let slice = c .before .before .before .before .before .before in
-    let start = slice .before in
-    refused 8 _ _ _ (unknown _ (λ i. slice .slice-known .given i .fits) (start .pre .0) _ _ _ (c .before .before .find-held .ensures .0) (c .before .before .before .id .ensures) (stateRow _) refl (c .if1 .taken)) (λ z. omega arith)
-
-state-requires : tie.Need-state-requires
-state-requires c κs =
-    let id = c .before .before .before .before in
-    let slice = id .before .before .before in
-    let start = slice .before in
-    known-reached _ (λ i. slice .slice-known .given i .fits) (start .pre .0) _ _ _ (c .before .before .before .find-held .ensures .0) (id .id .ensures) (c .before .if1 .left)
+    let at = c .before .before in
+    let h = searched at in
+    let e : row (start at) ≡ 8 = sym (number-is h _ (none-met (ended h) _ (c .if1 .taken))) in
+    rw e
 
 returns-2 : tie.Need-returns-2
+unfolding recOf
 returns-2 c =
-    let find-held = c .before .before .before .before .before in
-    let id = find-held .before in
-    let slice = id .before .before .before in
-    let start = slice .before in
-    refused 18 _ _ _ (wrong-state _ _ _ (known _ (λ i. slice .slice-known .given i .fits) (start .pre .0) _ _ _ (find-held .find-held .ensures .0) (id .id .ensures) (c .before .before .before .if1 .left)) _ (c .before .state .ensures) (start .args .state) (λ z. omega (arith, z, c .if2 .taken))) (λ z. omega arith)
+    let read = c .before in
+    rw (from18 (read .before .before) ∙ stop _ _ _ (ne-eqb _ _ (λ z. c .if2 .taken (read .state .ensures ∙ z))))
 
 set-state-requires : tie.Need-set-state-requires
-set-state-requires c κs =
-    let else-1 = c .before .before .before .before in
-    let find-held = else-1 .before .before in
-    let id = find-held .before in
-    let slice = id .before .before .before in
-    let start = slice .before in
-    (known-held _ (λ i. slice .slice-known .given i .fits) (start .pre .0) _ _ _ (find-held .find-held .ensures .0) (id .id .ensures) (else-1 .if1 .left), start .pre .2)
+set-state-requires c κs = let met = c .before .before .before .before in (there met .held, start (found-at met) .pre .1)
 
 returns-3 : tie.Need-returns-3
+unfolding recOf
 returns-3 c =
-    let else-2 = c .before .before .before .before in
-    let state = else-2 .before in
-    let else-1 = state .before .before in
-    let find-held = else-1 .before .before in
-    let id = find-held .before in
-    let slice = id .before .before .before in
-    let start = slice .before in
-    done _ _ _ _ (right-state _ _ _ (known _ (λ i. slice .slice-known .given i .fits) (start .pre .0) _ _ _ (find-held .find-held .ensures .0) (id .id .ensures) (else-1 .if1 .left)) _ (state .state .ensures) (start .args .state) (omega (arith, else-2 .if2 .left))) (at-key (withState _) _ _ _ _ (known-key _ (λ i. slice .slice-known .given i .fits) (start .pre .0) _ _ _ (find-held .find-held .ensures .0) (id .id .ensures) (else-1 .if1 .left)) (c .before .before .set-state .ensures))
+    let set = c .before .before in
+    let fits = set .before .before in
+    let met = fits .before .before .before in
+    rw (
+      from18 met ∙ next _ _ _ (eq-eqb _ _ (sym (fits .before .state .ensures) ∙ fits .if2 .left)) ∙ clear,
+      rw (own-key (searched (found-at met)) (met .if1 .left)) at (set .set-state .ensures),
+    )
 
 pub advance-spec : {M : Type 1} → statement M
 advance-spec =
     tie.close
-    (tie.spec (λ c κs. search needs) (λ c κs. search needs) (λ c. search needs) (λ c. search needs) returns state-requires (λ c. search needs) returns-2 set-state-requires (λ c. search needs) returns-3)
+    (tie.spec (λ c κs. search needs) (λ c. search needs) (λ c. search needs) returns (λ c κs. there (c .before) .reached)
+    (λ c. search needs) returns-2 set-state-requires (λ c. search needs) returns-3)

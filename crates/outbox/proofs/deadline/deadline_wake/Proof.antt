@@ -1,37 +1,49 @@
--- Assumes nothing.
+-- The first wake, and the second. Assumes nothing.
+use mathlib.Core.Path.{sym, ap, _∙_}
 use Rattle.machine.specs.Codes.{roleSend}
-use Rattle.outbox.specs.HereLaws.{here}
-use Rattle.outbox.proofs.Deadlines.{deadline-dropped, deadline-marked}
+use Rattle.machine.specs.Layout.{encode}
+use Rattle.machine.specs.Send.{timedOut, deadlineOut, deadlineAt}
+use Rattle.outbox.specs.Leaves.{Here}
+use Rattle.outbox.specs.HereLaws.{here, found-here}
+use Rattle.outbox.specs.PartlyLaws.{change-is}
+use Rattle.outbox.specs.WokenLaws.{nothing}
 use borrow.Author.Needs.{needs}
 use Rattle.outbox.proofs.deadline.deadline_wake.Statement.{statement}
 use Rattle.outbox.proofs.deadline.deadline_wake.Tie as tie
 
-is-late-requires : tie.Need-is-late-requires
-is-late-requires c κs = here _ (λ i. c .before .before .slice-known .given i .fits) _ (c .before .before .before .pre .0)
+found : (c : tie.After-slice-known) → Here (c .before .args .send .now) (c .before .args .link)
+found c = here (λ i. c .slice-known .given i .fits) (c .before .pre .0)
+
+abbrev known : tie.After-is-late → tie.After-slice-known
+known c = c .before .before .before
 
 drop-requires : tie.Need-drop-requires
-drop-requires c κs =
-    let start = c .before .before .before .before .before .before in
-    (roleSend, start .pre .0)
+drop-requires c κs = (roleSend, known (c .before .before) .before .pre .0)
 
 returns : tie.Need-returns
+unfolding deadlineOut deadlineAt
 returns c =
-    let then-1 = c .before .before .before .before in
-    let is-late = then-1 .before in
-    let slice = is-late .before .before .before in
-    let start = slice .before in
-    deadline-dropped _ (λ i. slice .slice-known .given i .fits) _ (start .pre .0) _ (is-late .is-late .ensures) _ _ (then-1 .if1 .taken) (c .before .before .drop .ensures)
+    let drop = c .before .before in
+    let again = drop .before .before in
+    let late = again .before in
+    rw (sym (late .is-late .ensures) ∙ again .if1 .taken)
+    (record { starts = nothing; store = rw (found-here (found (known late))) at (drop .drop .ensures) })
+
+put-aborted-requires : tie.Need-put-aborted-requires
+put-aborted-requires c κs = let k = known (c .before .before .before) in (found k, k .before .pre .1)
 
 returns-2 : tie.Need-returns-2
+unfolding deadlineOut deadlineAt
 returns-2 c =
-    let put-aborted = c .before .before .before .before .before .before in
-    let else-1 = put-aborted .before .before .before in
-    let is-late = else-1 .before in
-    let slice = is-late .before .before .before in
-    let start = slice .before in
-    deadline-marked _ (λ i. slice .slice-known .given i .fits) _ (start .pre .0) _ (is-late .is-late .ensures) _ _ _ _ (else-1 .if1 .left) (put-aborted .put-aborted .ensures .0) (put-aborted .put-aborted .ensures .1) (c .before .before .time-out .ensures)
+    let marked = c .before .before in
+    let put = marked .before .before .before .before in
+    let first = put .before .before .before in
+    let late = first .before in
+    rw (sym (late .is-late .ensures) ∙ first .if1 .left)
+    (record { starts = put .put-aborted .ensures; store = marked .time-out .ensures ∙ ap encode (change-is (found (known late)) timedOut) })
 
 pub deadline-wake-spec : {M : Type 1} → statement M
 deadline-wake-spec =
     tie.close
-    (tie.spec is-late-requires drop-requires (λ c. search needs) returns (λ c κs. search needs) (λ c κs. search needs) (λ c. search needs) (λ c. search needs) returns-2)
+    (tie.spec (λ c κs. found (c .before .before)) drop-requires (λ c. search needs) returns
+    put-aborted-requires (λ c κs. search needs) (λ c. search needs) (λ c. search needs) returns-2)

@@ -1,11 +1,15 @@
 -- Assumes nothing.
-use Rattle.outbox.proofs.Deadlines.{mark-read}
+use Prim.Native.Nat.{ℕ}
+use mathlib.Core.Path.{ap}
+use lib.Dec.{eqb}
+use Rattle.machine.specs.Layout.{recOf}
 use borrow.Author.Needs.{needs}
 use Rattle.outbox.proofs.deadline.is_late.Statement.{statement}
 use Rattle.outbox.proofs.deadline.is_late.Tie as tie
 
 returns : tie.Need-returns
-returns c = mark-read (c .before .before .args .send .now) (c .before .before .args .at) _ (c .timed-out .ensures)
+unfolding recOf
+returns c = ap (λ (x : ℕ). eqb x 1) (c .timed-out .ensures)
 
 pub is-late-spec : {M : Type 1} → statement M
 is-late-spec = tie.close (tie.spec (λ c κs. search needs) returns)

@@ -1,58 +1,43 @@
 -- Assumes nothing.
 use native.Mathlib.Omega.{arith}
-use mathlib.Core.Path.{ap, _∙_}
-use lib.ListN.{length}
-use Rattle.machine.specs.Codes.{roleSend}
-use Rattle.store.specs.MetLaws.{here-reached, here-sized}
-use Rattle.outbox.proofs.Deadlines.{names-long, aborted-none, aborted-put}
+use mathlib.Core.Path.{sym}
+use Rattle.machine.specs.Layout.{recOf}
+use Rattle.outbox.specs.WokenLaws.{nothing}
+use Rattle.outbox.proofs.Packets.{room, id-long, aborted-long}
 use borrow.Author.Needs.{needs}
 use Rattle.outbox.proofs.deadline.put_aborted.Statement.{statement}
 use Rattle.outbox.proofs.deadline.put_aborted.Tie as tie
 
-state-requires : tie.Need-state-requires
-state-requires c κs = here-reached roleSend _ (λ i. c .before .shared-slice-known .given i .fits) _ (c .before .before .pre .0)
-
-source-requires : tie.Need-source-requires
-source-requires c κs =
-    let slice = c .before .before .before .before in
-    let start = slice .before in
-    here-reached roleSend _ (λ i. slice .shared-slice-known .given i .fits) _ (start .pre .0)
-
-destination-requires : tie.Need-destination-requires
-destination-requires c κs =
-    let slice = c .before .before .before .before .before in
-    let start = slice .before in
-    here-reached roleSend _ (λ i. slice .shared-slice-known .given i .fits) _ (start .pre .0)
-
-id-requires : tie.Need-id-requires
-id-requires c κs =
-    let slice = c .before .before .before .before .before .before in
-    let start = slice .before in
-    here-reached roleSend _ (λ i. slice .shared-slice-known .given i .fits) _ (start .pre .0)
+abbrev start : tie.After-source → tie.Start
+start c = c .before .before .before .before .before .before
 
 put-header-requires : tie.Need-put-header-requires
 put-header-requires c κs =
-    let slice = c .before .before .before .before .before .before .before in
-    let start = slice .before in
-    let z = names-long _ _ (here-sized roleSend _ (λ i. slice .shared-slice-known .given i .fits) _ (start .pre .0) .label) in (
-      record { source = ap length (c .before .before .source .ensures) ∙ z .0; target = ap length (c .before .destination .ensures) ∙ z .1; fits = omega (arith, start .pre .1) },
-      ap length (c .id .ensures) ∙ z .2,
-    )
+    let to = c .before in
+    let from = to .before in
+    let p = start from .pre in
+    (room (p .0) (from .source .ensures) (to .destination .ensures) (omega (arith, p .1)), id-long (p .0) (c .id .ensures))
 
 returns : tie.Need-returns
+unfolding recOf
 returns c =
-    let destination = c .before .before .before .before in
-    let source = destination .before in
-    let then-1 = source .before .before in
-    let state = then-1 .before in
-    let slice = state .before .before in
-    let start = slice .before in
-    aborted-put _ _ _ (state .state .ensures) (here-sized roleSend _ (λ i. slice .shared-slice-known .given i .fits) _ (start .pre .0) .label) (then-1 .if1 .taken) _ _ _ _ _ (source .source .ensures) (destination .destination .ensures) (c .before .before .before .id .ensures) (c .before .before .put-header .ensures)
+    let wrote = c .before .before in
+    let id = wrote .before in
+    let to = id .before in
+    let from = to .before in
+    let going = from .before .before in
+    rw (rw (going .before .state .ensures) at (going .if1 .taken))
+    (record {
+      ends = sym (aborted-long (start from .pre .0));
+      out = rw (from .source .ensures, to .destination .ensures, id .id .ensures) at (wrote .put-header .ensures);
+    })
 
 returns-2 : tie.Need-returns-2
-returns-2 c = aborted-none _ _ _ (c .before .state .ensures) (c .if1 .left) _
+unfolding recOf
+returns-2 c = rw (rw (c .before .state .ensures) at (c .if1 .left)) nothing
 
 pub put-aborted-spec : {M : Type 1} → statement M
 put-aborted-spec =
     tie.close
-    (tie.spec state-requires source-requires destination-requires id-requires put-header-requires (λ c. search needs) (λ c. search needs) returns returns-2)
+    (tie.spec (λ c κs. search needs) (λ c κs. search needs) (λ c κs. search needs) (λ c κs. search needs)
+    put-header-requires (λ c. search needs) (λ c. search needs) returns returns-2)

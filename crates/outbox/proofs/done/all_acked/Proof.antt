@@ -1,13 +1,18 @@
 -- Assumes nothing.
-use Rattle.outbox.proofs.Packets.{acked-here}
+use mathlib.Core.Path.{sym}
+use Rattle.machine.specs.Layout.{recOf}
+use Rattle.store.specs.HeldAt.{recIn}
+use Rattle.outbox.specs.AckedLaws.{acked-is}
 use borrow.Author.Needs.{needs}
 use Rattle.outbox.proofs.done.all_acked.Statement.{statement}
 use Rattle.outbox.proofs.done.all_acked.Tie as tie
 
 returns : tie.Need-returns
-returns c = acked-here _ _ (c .before .before .before .pre) _ _ (c .before .count-state .ensures .0) (c .slots .ensures .0)
+unfolding recOf
+returns c =
+    let count = c .before in
+    let s = count .before .before in
+    rw (count .count-state .ensures .0, c .slots .ensures .0, sym (s .pre .counted)) (acked-is (recIn (s .args .send .now) (s .args .link) .cells))
 
 pub all-acked-spec : {M : Type 1} → statement M
-all-acked-spec =
-    tie.close
-    (tie.spec (λ c κs. search needs) (λ c κs. search needs) returns)
+all-acked-spec = tie.close (tie.spec (λ c κs. search needs) (λ c κs. search needs) returns)

@@ -1,28 +1,35 @@
--- Assumes nothing.
-use borrow.Author.Needs.{needs}
+-- The piece was due, or not. Assumes nothing.
+use native.Mathlib.Omega.{arith}
+use mathlib.Core.Path.{sym, _∙_}
+use Rattle.octets.specs.PartsLaws.{put-nil}
+use Rattle.cells.specs.InPlace.{CellIn}
 use Rattle.cells.specs.ReadLaws.{cell-in}
-use Rattle.outbox.proofs.Pieces.{sent-is, kept-is}
+use borrow.Author.Needs.{needs}
 use Rattle.outbox.proofs.piece.send_piece.Statement.{statement}
 use Rattle.outbox.proofs.piece.send_piece.Tie as tie
 
-is-due-requires : tie.Need-is-due-requires
-is-due-requires c κs = let t = c .before .before .before .before .pre in cell-in _ (t .links) _ (t .some) (t .most)
+abbrev start : tie.After-is-due → tie.Start
+start c = c .before .before .before .before .before
 
-mark-requires : tie.Need-mark-requires
-mark-requires c κs =
-    let t = c .before .before .before .before .before .before .before .before .before .before .before .before .pre in
-    cell-in _ (t .links) _ (t .some) (t .most)
+cell : (s : tie.Start) → CellIn (s .args .send .now) (s .args .place)
+cell s = let t = s .pre in cell-in _ (t .links) _ (t .some) (t .most)
 
 returns : tie.Need-returns
 returns c =
-    let put = c .before .before .before .before .before .before in
-    let taken = put .before .before .before in
-    sent-is _ _ _ _ _ _ _ (taken .before .is-due .ensures) _ _ _ (taken .if1 .taken) (put .put-piece .ensures .0) (put .put-piece .ensures .1) (c .before .before .mark .ensures)
+    let marked = c .before .before in
+    let put = marked .before .before .before .before in
+    let due = put .before .before .before in
+    let q = sym (due .before .is-due .ensures) ∙ due .if1 .taken in
+    record { ends = rw q (put .put-piece .ensures .0); store = rw q (marked .mark .ensures); out = rw q (put .put-piece .ensures .1) }
 
 returns-2 : tie.Need-returns-2
-returns-2 c = kept-is _ _ _ _ _ _ _ (c .before .is-due .ensures) (c .if1 .left)
+returns-2 c =
+    let q = sym (c .before .is-due .ensures) ∙ c .if1 .left in
+    record { ends = rw q (omega arith); store = rw q; out = rw q (sym (put-nil _ _)) }
 
 pub send-piece-spec : {M : Type 1} → statement M
 send-piece-spec =
     tie.close
-    (tie.spec is-due-requires (λ c κs. search needs) mark-requires (λ c. search needs) (λ c. search needs) returns (λ c. search needs) returns-2)
+    (tie.spec (λ c κs. cell (c .before .before .before .before)) (λ c κs. search needs)
+    (λ c κs. cell (start (c .before .before .before .before .before .before .before)))
+    (λ c. search needs) (λ c. search needs) returns (λ c. search needs) returns-2)

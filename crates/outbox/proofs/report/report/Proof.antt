@@ -1,43 +1,76 @@
--- Assumes nothing.
-use mathlib.Core.Path.{refl}
+-- The row, test by test; then the report on the record with the id. Assumes nothing.
+use Prim.Native.Nat.{ℕ}
+use mathlib.Core.Path.{_≡_, sym, _∙_}
+use mathlib.Core.List.{[]}
+use mathlib.Core.Option.{Option}
+use borrow.Author.Tests.{le-leb, lt-leb}
+use Rattle.machine.specs.Codes.{roleSend}
+use Rattle.machine.specs.Values.{Rec}
 use Rattle.machine.specs.Layout.{decode}
 use Rattle.machine.specs.Receive.{found}
-use Rattle.machine.specs.Refusals.{heldRow}
-use Rattle.outbox.proofs.Sought.{unknown, known, known-held}
-use Rattle.outbox.proofs.Reports.{report-short, report-unknown, report-done}
+use Rattle.machine.specs.Refusals.{refusal, heldRow}
+use Rattle.store.specs.MetLaws.{found-some}
+use Rattle.store.specs.RefuseLaws.{next, stop, clear}
+use Rattle.store.specs.SearchLaws.{Search, ended, here, none-met, asks-met, number-is}
+use Rattle.outbox.specs.HereLaws as leaves
+use Rattle.outbox.specs.Rows.{reportTests}
 use borrow.Author.Needs.{needs}
 use Rattle.outbox.proofs.report.report.Statement.{statement}
 use Rattle.outbox.proofs.report.report.Tie as tie
 
+-- the record with the id, and what the row answers
+abbrev met : tie.Start → Option Rec
+met s = found (s .args .id .now) (decode (s .args .send .now) .held)
+
+abbrev row : tie.Start → ℕ
+row s = refusal (reportTests (s .args .out .now) (met s))
+
+-- the buffer has room
+abbrev start : tie.Else1 → tie.Start
+start c = c .before .before .before .before
+
+from8 : (c : tie.Else1) → row (start c) ≡ refusal (heldRow (met (start c)))
+from8 c = next _ _ _ (le-leb _ _ (c .if1 .left))
+
+-- the search for the id
+searched : (c : tie.After-find-held) → let a = start (c .before) .args in Search roleSend (a .send .now) (a .id .now) (c .find-held .result)
+searched c =
+    let known = c .before .before .before .before in
+    record { bytes = λ i. known .shared-slice-known .given i .fits; sound = start (c .before) .pre; is = c .find-held .ensures .0 }
+
 returns : tie.Need-returns
 returns c =
-    let start = c .before .before .before .before .before in
-    report-short (found (start .args .id .now) (decode (start .args .send .now) .held)) _ _ _ _ (c .before .if1 .taken) (c .refuse .ensures .0) (c .refuse .ensures .1) (c .refuse .ensures .2)
+    let e : row (c .before .before .before .before .before) ≡ 2 = stop _ _ _ (lt-leb _ _ (c .before .if1 .taken)) in
+    let r = c .refuse .ensures in
+    rw (e, r .0, r .1, r .2)
 
 returns-2 : tie.Need-returns-2
 returns-2 c =
-    let else-1 = c .before .before .before .before in
-    let slice = else-1 .before .before .before in
-    let start = slice .before in
-    report-unknown (found (start .args .id .now) (decode (start .args .send .now) .held)) _ (else-1 .if1 .left) _ _ _ (unknown _ (λ i. slice .shared-slice-known .given i .fits) (start .pre) _ (start .args .id .now) _ (c .before .before .before .find-held .ensures .0) refl heldRow refl (c .before .if2 .taken)) (c .refuse2 .ensures .0) (c .refuse2 .ensures .1) (c .refuse2 .ensures .2)
+    let at = c .before .before .before in
+    let h = searched at in
+    let e : row (start (at .before)) ≡ 8 = from8 (at .before) ∙ sym (number-is h _ (none-met (ended h) (λ r. []) (c .before .if2 .taken))) in
+    let r = c .refuse2 .ensures in
+    rw (e, r .0, r .1, r .2)
 
 put-report-requires : tie.Need-put-report-requires
 put-report-requires c κs =
-    let else-1 = c .before .before .before .before in
-    let slice = else-1 .before .before .before in
-    let start = slice .before in
-    (known-held _ (λ i. slice .shared-slice-known .given i .fits) (start .pre) _ (start .args .id .now) _ (c .before .before .before .find-held .ensures .0) refl (c .before .if2 .left), else-1 .if1 .left)
+    let at = c .before .before .before in
+    let h = searched at in
+    (leaves.here (h .bytes) (here h (c .before .if2 .left)), at .before .if1 .left)
 
 returns-3 : tie.Need-returns-3
 returns-3 c =
-    let else-2 = c .before .before .before .before .before in
-    let find-held = else-2 .before .before in
-    let else-1 = find-held .before in
-    let slice = else-1 .before .before .before in
-    let start = slice .before in
-    report-done _ _ (else-1 .if1 .left) _ _ _ _ _ (known _ (λ i. slice .shared-slice-known .given i .fits) (start .pre) _ (start .args .id .now) _ (find-held .find-held .ensures .0) refl (else-2 .if2 .left)) (c .before .before .before .put-report .ensures) (c .sent .ensures .0) (c .sent .ensures .1) (c .sent .ensures .2)
+    let wrote = c .before .before .before in
+    let there = wrote .before .before in
+    let some = there .if2 .left in
+    let at = there .before .before in
+    let h = searched at in
+    let e : row (start (at .before)) ≡ 0 = from8 (at .before) ∙ sym (number-is h _ (sym (asks-met (ended h) (λ r. []) some ∙ clear))) in
+    let r = c .sent .ensures in
+    rw (e, found-some roleSend _ (h .bytes) (h .sound) _ _ (h .is) some, r .0, r .1, r .2, wrote .put-report .ensures)
 
 pub report-spec : {M : Type 1} → statement M
 report-spec =
     tie.close
-    (tie.spec (λ c κs. search needs) returns (λ c κs. search needs) (λ c. search needs) (λ c κs. search needs) returns-2 put-report-requires (λ c κs. search needs) (λ c. search needs) returns-3)
+    (tie.spec (λ c κs. search needs) returns (λ c κs. search needs) (λ c. search needs) (λ c κs. search needs) returns-2
+    put-report-requires (λ c κs. search needs) (λ c. search needs) returns-3)

@@ -1,37 +1,40 @@
--- Assumes nothing.
-use native.Mathlib.Omega.{arith}
-use Rattle.outbox.proofs.Wakings.{by-send, by-deadline, room-send, room-deadline}
+-- By the kind. Assumes nothing.
+use borrow.Author.Tests.{eq-eqb, ne-eqb}
+use Rattle.machine.specs.Wake.{sendWake, wakeRun, wakeStep}
+use Rattle.outbox.specs.HereLaws.{found-here}
 use borrow.Author.Needs.{needs}
 use Rattle.outbox.proofs.wake.wake_record.Statement.{statement}
 use Rattle.outbox.proofs.wake.wake_record.Tie as tie
 
 send-wake-requires : tie.Need-send-wake-requires
 send-wake-requires c κs =
-    let start = c .before .before .before .before .before in
-    (start .pre .0, omega (arith, start .pre .1, room-send (start .args .kind) (c .before .before .if1 .taken)))
+    let at = c .before .before in
+    let s = at .before .before .before in
+    (s .pre .0 .held, rw (eq-eqb (s .args .kind) sendWake (at .if1 .taken)) at (s .pre .1))
 
 returns : tie.Need-returns
+unfolding wakeRun wakeStep
 returns c =
-    let send-wake = c .before .before .before .before in
-    let then-1 = send-wake .before .before .before in
-    let slice = then-1 .before .before in
-    let start = slice .before in
-    by-send _ (λ i. slice .slice-known .given i .fits) _ (start .pre .0) _ _ _ _ _ _ (then-1 .if1 .taken) (send-wake .send-wake .ensures)
+    let woke = c .before .before .before .before in
+    let at = woke .before .before .before in
+    rw (eq-eqb (at .before .before .before .args .kind) sendWake (at .if1 .taken)) (woke .send-wake .ensures)
 
 deadline-wake-requires : tie.Need-deadline-wake-requires
 deadline-wake-requires c κs =
-    let start = c .before .before .before .before .before in
-    (start .pre .0, omega (arith, start .pre .1, room-deadline (start .args .kind) (c .before .before .if1 .left)))
+    let at = c .before .before in
+    let s = at .before .before .before in
+    (s .pre .0 .held, rw (ne-eqb (s .args .kind) sendWake (at .if1 .left)) at (s .pre .1))
 
 returns-2 : tie.Need-returns-2
+unfolding wakeRun wakeStep
 returns-2 c =
-    let deadline-wake = c .before .before .before .before in
-    let else-1 = deadline-wake .before .before .before in
-    let slice = else-1 .before .before in
-    let start = slice .before in
-    by-deadline _ (λ i. slice .slice-known .given i .fits) _ (start .pre .0) _ (start .args .clock) _ _ _ _ (else-1 .if1 .left) (deadline-wake .deadline-wake .ensures)
+    let woke = c .before .before .before .before in
+    let at = woke .before .before .before in
+    let s = at .before .before .before in
+    rw (ne-eqb (s .args .kind) sendWake (at .if1 .left), found-here (s .pre .0)) (woke .deadline-wake .ensures)
 
 pub wake-record-spec : {M : Type 1} → statement M
 wake-record-spec =
     tie.close
-    (tie.spec send-wake-requires (λ c. search needs) (λ c. search needs) returns deadline-wake-requires (λ c. search needs) (λ c. search needs) returns-2)
+    (tie.spec send-wake-requires (λ c. search needs) (λ c. search needs) returns
+    deadline-wake-requires (λ c. search needs) (λ c. search needs) returns-2)

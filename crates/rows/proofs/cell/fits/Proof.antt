@@ -11,9 +11,13 @@ returns c = rw (← c .before .size .ensures .0, lt-leb _ 1364 (c .if1 .taken))
 
 returns-2 : tie.Need-returns-2
 unfolding pieceFits
-returns-2 c = rw (c .before .before .zero-part .ensures, c .before .zero-part2 .ensures, c .sending-fits .ensures, ← c .before .before .before .before .size .ensures .0, le-leb _ 1364 (c .before .before .before .if1 .left))
+returns-2 c =
+    let zeros = c .before .before in
+    let size = zeros .before .before .size in
+    rw (zeros .zero-part .ensures, c .before .zero-part2 .ensures, c .sending-fits .ensures, ← size .ensures .0, le-leb _ 1364 (zeros .before .if1 .left))
 
 pub fits-spec : {M : Type 1} → statement M
 fits-spec =
     tie.close
-    (tie.spec (λ c κs. search needs) returns (λ c. search needs) (λ c κs. search needs) (λ c. search needs) (λ c. search needs) (λ c. search needs) (λ c κs. search needs) (λ c κs. search needs) returns-2)
+    (tie.spec (λ c κs. search needs) returns (λ c. search needs) (λ c κs. search needs) (λ c. search needs)
+    (λ c. search needs) (λ c. search needs) (λ c κs. search needs) (λ c κs. search needs) returns-2)

@@ -26,4 +26,5 @@ returns-4 c =
 pub fits-spec : {M : Type 1} → statement M
 fits-spec =
     tie.close
-    (tie.spec returns (λ c. search needs) (λ c κs. search needs) returns-2 returns-3 (λ c. search needs) (λ c κs. search needs) (λ c. search needs) (λ c. search needs) (λ c κs. search needs) (λ c. search needs) (λ c κs. search needs) (λ c. search needs) returns-4)
+    (tie.spec returns (λ c. search needs) (λ c κs. search needs) returns-2 returns-3 (λ c. search needs) (λ c κs. search needs) (λ c. search needs)
+    (λ c. search needs) (λ c κs. search needs) (λ c. search needs) (λ c κs. search needs) (λ c. search needs) returns-4)

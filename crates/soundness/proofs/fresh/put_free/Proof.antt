@@ -8,7 +8,8 @@ use Rattle.soundness.proofs.fresh.put_free.Statement.{statement}
 use Rattle.soundness.proofs.fresh.put_free.Tie as tie
 
 returns : tie.Need-returns
-returns c = more _ _ _ _ _ (_ ∷ []) _ (c .before .before .before .before .before .before .copy-in .ensures) (c .before .before .fill .ensures) refl (omega arith)
+returns c =
+    more _ _ _ _ _ (_ ∷ []) _ (c .before .before .before .before .before .before .copy-in .ensures) (c .before .before .fill .ensures) refl (omega arith)
 
 pub put-free-spec : {M : Type 1} → statement M
 put-free-spec =

@@ -11,7 +11,9 @@ cast-t6 c = let h = role-small (c .before .args .role) (c .before .pre .0) in om
 returns : tie.Need-returns
 returns c =
     let start = c .before .before .before .before .before .before .before .before .before .before .before .before .before .before in
-    fresh-written (start .args .role) (start .args .cells) (start .args .store .now) _ _ _ (start .pre .1) (start .pre .3) (c .before .before .before .before .before .before .before .before .before .before .copy-in .ensures) (c .before .before .before .before .before .before .put-rising .ensures) (c .before .before .put-rising2 .ensures)
+    fresh-written (start .args .role) (start .args .cells) (start .args .store .now) _ _ _ (start .pre .1) (start .pre .3)
+    (c .before .before .before .before .before .before .before .before .before .before .copy-in .ensures)
+    (c .before .before .before .before .before .before .put-rising .ensures) (c .before .before .put-rising2 .ensures)
 
 pub put-fresh-spec : {M : Type 1} → statement M
 put-fresh-spec =

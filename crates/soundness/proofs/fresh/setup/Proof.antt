@@ -24,7 +24,11 @@ put-fresh-requires c κs =
     )
 
 returns-3 : tie.Need-returns-3
-returns-3 c = setup-done _ _ _ (c .before .before .before .before .before .before .before .cells-of .ensures .0) _ (c .before .before .before .before .before .before .if1 .left) (sym (c .before .before .before .before .before .is-role .ensures) ∙ not-false _ (c .before .before .before .before .if2 .left)) (c .before .before .put-fresh .ensures)
+returns-3 c =
+    setup-done _ _ _ (c .before .before .before .before .before .before .before .cells-of .ensures .0) _
+    (c .before .before .before .before .before .before .if1 .left)
+    (sym (c .before .before .before .before .before .is-role .ensures) ∙ not-false _ (c .before .before .before .before .if2 .left))
+    (c .before .before .put-fresh .ensures)
 
 pub setup-spec : {M : Type 1} → statement M
 setup-spec =

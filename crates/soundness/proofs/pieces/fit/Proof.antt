@@ -1,114 +1,87 @@
 -- The invariant: the cells on the way can be read, and what is asked of the rest of the pieces is what is asked of all. Assumes nothing.
-use Prim.Native.Nat.{_*_, _-_, _≤_}
-use mathlib.Core.Path.{_≡_, sym, _∙_}
-use mathlib.Core.Bool.{true}
-use mathlib.Core.List.{map}
+use Prim.Native.Nat.{suc, _-_}
 use native.Mathlib.Omega.{arith}
+use mathlib.Core.Path.{_≡_, _∙_}
+use lib.ListN.{length}
 use borrow.Author.Needs.{needs}
-use Rattle.octets.specs.Lists.{all}
-use Rattle.machine.specs.Chains.{link, walk}
-use Rattle.machine.specs.Layout.{cellAt, readCell, readCells}
-use Rattle.soundness.specs.Walked.{readable, piecesFit}
-use Rattle.soundness.proofs.Walking.{walk-all}
-use Rattle.soundness.proofs.Rests.{restFits, rest-all, cell-in, cell-byte, cell-bytes, cell-next, fit-low, fit-high, fit-more, fit-end, fit-out}
+use Rattle.machine.specs.Limits.{mostCells, cellBytes}
+use Rattle.soundness.proofs.Rests.{Turn, rest-all, cell-in, cell-long, fit-low, fit-high, fit-more, fit-end, fit-out}
 use Rattle.soundness.proofs.pieces.fit.Statement.{statement}
 use Rattle.soundness.proofs.pieces.fit.Tie as tie
 
 abbrev Inv-loop : tie.InvT-loop
-Inv-loop s cells first kind slots length x₀ n₀ low₀ sum₀ left₀ cut₀ x n low sum left cut =
-    (n ≤ 46) × (sum ≤ 65536 * n) × (low ≤ 256) × (all (readable cells s) (walk (link (cellAt s)) (46 - n) x) ≡ true)
-    × (piecesFit kind slots length (readCells s first) ≡ restFits kind slots length low n sum left cut (map (readCell s) (walk (link (cellAt s)) (46 - n) x)))
+Inv-loop s cells first kind slots total x₀ n₀ low₀ sum₀ left₀ cut₀ x n low sum left cut = Turn cells s kind slots total first x n low sum left cut
 
 abbrev μ-loop : tie.MeasureT-loop
-μ-loop s cells first kind slots length x₀ n₀ low₀ sum₀ left₀ cut₀ x n low sum left cut = 46 - n
+μ-loop s cells first kind slots total x₀ n₀ low₀ sum₀ left₀ cut₀ x n low sum left cut = suc mostCells - n
+
+-- the loop where a cell is there, and the function's start
+abbrev walk : tie.Else1 Inv-loop μ-loop → tie.At-loop Inv-loop μ-loop
+walk c = c .before .before
+
+abbrev start : tie.At-loop Inv-loop μ-loop → tie.Start Inv-loop μ-loop
+start c = c .before .before
 
 loop-holds : tie.Need-loop-holds Inv-loop μ-loop
-loop-holds c = (omega arith, omega arith, omega arith, c .before .pre .1, rest-all _ _ _ _)
+loop-holds c =
+    record { turns = omega arith; small = omega arith; byte = omega arith; reads = c .before .pre .1; gives = rest-all _ _ _ _ }
 
 returns : tie.Need-returns Inv-loop μ-loop
-returns c =
-    let l = c .before .before .before in
-    let start = l .before .before in
-    c .is-complete .ensures
-    ∙ sym (l .loop .inv .4 ∙ fit-end (start .args .s .now) (start .args .kind) (start .args .slots) (start .args .length) (l .loop .low) (l .loop .n) (l .loop .sum) (l .loop .left) (l .loop .cut) _ _ (c .before .if1 .taken))
+returns c = c .is-complete .ensures ∙ fit-end (c .before .before .before .loop .inv) (c .before .if1 .taken)
 
 cell-requires : tie.Need-cell-requires Inv-loop μ-loop
 cell-requires c κs =
-    let l = c .before .before in
-    let start = l .before .before in
-    let w = cell-in (start .args .cells) (start .args .s .now) 46 (l .loop .n) (l .loop .x) (c .before .loop-test .taken) (c .if1 .left) (l .loop .inv .3) in
-    (start .pre .0, w .0, w .1)
+    let w = cell-in (walk c .loop .inv) (omega arith) (c .if1 .left) in
+    (start (walk c) .pre .0, w .0, w .1)
+
+-- the row of the cell
+abbrev some : tie.After-cell Inv-loop μ-loop → tie.Else1 Inv-loop μ-loop
+some c = c .before
+
+long : (c : tie.After-cell Inv-loop μ-loop) → length (c .cell .result .now) ≡ cellBytes
+long c = cell-long (walk (some c) .loop .inv) (omega arith) (some c .if1 .left) (start (walk (some c)) .pre .0) (c .cell .ensures)
 
 shared-slice-read-wide : tie.Need-shared-slice-read-wide Inv-loop μ-loop
-shared-slice-read-wide c =
-    let e1 = c .before .before in
-    let l = e1 .before .before in
-    let start = l .before .before in
-    cell-byte (start .args .cells) (start .args .s .now) 46 (l .loop .n) (l .loop .x) (e1 .before .loop-test .taken) (e1 .if1 .left) (l .loop .inv .3)
-    (start .pre .0) _ (c .before .cell .ensures) 1 (omega arith)
+shared-slice-read-wide c = omega (arith, long (c .before))
 
 returns-2 : tie.Need-returns-2 Inv-loop μ-loop
 returns-2 c =
-    let e1 = c .before .before .before .before in
-    let l = e1 .before .before in
-    let start = l .before .before in
-    sym (l .loop .inv .4 ∙ fit-low (start .args .cells) (start .args .s .now) 46 (l .loop .n) (l .loop .x) (e1 .before .loop-test .taken) (e1 .if1 .left) (l .loop .inv .3)
-    (start .pre .0) _ (c .before .before .before .cell .ensures)
-    (start .args .kind) (start .args .slots) (start .args .length) (l .loop .low) (l .loop .n) (l .loop .sum) (l .loop .left) (l .loop .cut) _ (c .before .wide .ensures .0) (c .if2 .taken))
+    let row = c .before .before .before in
+    let e = some row in
+    fit-low (walk e .loop .inv) (omega arith) (e .if1 .left) (start (walk e) .pre .0) (row .cell .ensures) (c .before .wide .ensures .0) (c .if2 .taken)
 
 returns-3 : tie.Need-returns-3 Inv-loop μ-loop
 returns-3 c =
-    let e1 = c .before .before .before .before .before in
-    let l = e1 .before .before in
-    let start = l .before .before in
-    sym (l .loop .inv .4 ∙ fit-high (start .args .cells) (start .args .s .now) 46 (l .loop .n) (l .loop .x) (e1 .before .loop-test .taken) (e1 .if1 .left) (l .loop .inv .3)
-    (start .pre .0) _ (c .before .before .before .before .cell .ensures)
-    (start .args .kind) (start .args .slots) (start .args .length) (l .loop .low) (l .loop .n) (l .loop .sum) (l .loop .left) (l .loop .cut) _ (c .before .before .wide .ensures .0) (c .if3 .taken))
+    let index = c .before .before in
+    let row = index .before .before in
+    let e = some row in
+    fit-high (walk e .loop .inv) (omega arith) (e .if1 .left) (start (walk e) .pre .0) (row .cell .ensures) (index .wide .ensures .0) (c .if3 .taken)
 
 get16-requires : tie.Need-get16-requires Inv-loop μ-loop
-get16-requires c κs =
-    let e1 = c .before .before .before .before .before in
-    let l = e1 .before .before in
-    let start = l .before .before in
-    cell-bytes (start .args .cells) (start .args .s .now) 46 (l .loop .n) (l .loop .x) (e1 .before .loop-test .taken) (e1 .if1 .left) (l .loop .inv .3)
-    (start .pre .0) _ (c .before .before .before .before .cell .ensures) 2 2 (omega arith)
+get16-requires c κs = omega (arith, long (c .before .before .before .before))
 
 shared-slice-read-small : tie.Need-shared-slice-read-small Inv-loop μ-loop
-shared-slice-read-small c =
-    let e1 = c .before .before .before .before .before .before .before .before .before in
-    let l = e1 .before .before in
-    let start = l .before .before in
-    cell-byte (start .args .cells) (start .args .s .now) 46 (l .loop .n) (l .loop .x) (e1 .before .loop-test .taken) (e1 .if1 .left) (l .loop .inv .3)
-    (start .pre .0) _ (c .before .before .before .before .before .before .before .before .cell .ensures) 0 (omega arith)
+shared-slice-read-small c = omega (arith, long (c .before .before .before .before .before .before .before .before))
 
 loop-again : tie.Need-loop-again Inv-loop μ-loop
 loop-again c =
-    let e1 = c .before .before .before .before .before .before .before .before .before .before in
-    let l = e1 .before .before in
-    let start = l .before .before in
-    let c4 = c .before .before .before .before in
-    let next : link (cellAt (start .args .s .now)) (l .loop .x) ≡ c .small .result =
-    cell-next (start .args .cells) (start .args .s .now) 46 (l .loop .n) (l .loop .x) (e1 .before .loop-test .taken) (e1 .if1 .left) (l .loop .inv .3)
-    (start .pre .0) _ (c .before .before .before .before .before .before .before .before .before .cell .ensures) _ (c .small .ensures .0) in (
-      omega arith,
-      omega arith,
-      omega arith,
-      walk-all _ _ 46 _ _ _ (e1 .before .loop-test .taken) (e1 .if1 .left) next (l .loop .inv .3) .1,
-      l .loop .inv .4
-          ∙ fit-more (start .args .cells) (start .args .s .now) 46 (l .loop .n) (l .loop .x) (e1 .before .loop-test .taken) (e1 .if1 .left) (l .loop .inv .3)
-          (start .pre .0) _ (c .before .before .before .before .before .before .before .before .before .cell .ensures)
-          (start .args .kind) (start .args .slots) (start .args .length) (l .loop .low) (l .loop .n) (l .loop .sum) (l .loop .left) (l .loop .cut) _ (c4 .before .before .before .wide .ensures .0) _ (c4 .get16 .ensures .0) _ next
-          (c4 .before .before .if2 .left) (c4 .before .if3 .left) (c .before .before .before .is-next .result) _ (c .before .before .before .is-next .ensures) (c .before .before .cut-off .ensures),
-    )
+    let cut = c .before .before in
+    let next = cut .before in
+    let size = next .before in
+    let high = size .before in
+    let index = high .before .before in
+    let row = index .before .before in
+    let e = some row in
+    fit-more (walk e .loop .inv) (omega arith) (e .if1 .left) (start (walk e) .pre .0) (row .cell .ensures) (index .wide .ensures .0) (size .get16 .ensures .0)
+    (c .small .ensures .0) (high .before .if2 .left) (high .if3 .left) (index .wide .ensures .1) (size .get16 .ensures .1) (next .is-next .ensures)
+    (cut .cut-off .ensures)
 
 returns-4 : tie.Need-returns-4 Inv-loop μ-loop
-returns-4 c =
-    let l = c .before .before in
-    let start = l .before .before in
-    c .is-complete2 .ensures
-    ∙ sym (l .loop .inv .4 ∙ fit-out (start .args .s .now) (start .args .kind) (start .args .slots) (start .args .length) (l .loop .low) (l .loop .n) (l .loop .sum) (l .loop .left) (l .loop .cut) 46 _ _ (c .before .loop-test .left))
+returns-4 c = c .is-complete2 .ensures ∙ fit-out (c .before .before .loop .inv) (c .before .loop-test .left)
 
 pub fit-spec : {M : Type 1} → statement M
 fit-spec =
     tie.close
-    (tie.spec Inv-loop μ-loop loop-holds (λ c κs. search needs) returns cell-requires shared-slice-read-wide (λ c κs. search needs) returns-2 returns-3 get16-requires (λ c κs. search needs) (λ c κs. search needs) (λ c. omega arith) (λ c. omega arith) shared-slice-read-small (λ c κs. search needs) (λ c. omega arith) (λ c. omega arith) loop-again (λ c κs. search needs) returns-4)
+    (tie.spec Inv-loop μ-loop loop-holds (λ c κs. search needs) returns cell-requires shared-slice-read-wide (λ c κs. search needs) returns-2
+    returns-3 get16-requires (λ c κs. search needs) (λ c κs. search needs) (λ c. omega arith) (λ c. omega arith) shared-slice-read-small
+    (λ c κs. search needs) (λ c. omega arith) (λ c. omega arith) loop-again (λ c κs. search needs) returns-4)

@@ -9,8 +9,11 @@ fit-requires : tie.Need-fit-requires
 fit-requires c κs =
     let small = c .before .before .before in
     let row = small .before .before .before in
-    let start = row .before .before in
-    (start .pre .0, record-reads (start .args .s .now) (start .args .x) _ _ (row-is _ _ _ recBytes (row .record-at .ensures)) (small .small .ensures .0) _ (start .pre .2))
+    let start = row .before .before in (
+      start .pre .0,
+      record-reads (start .args .s .now) (start .args .x) _ _
+          (row-is _ _ _ recBytes (row .record-at .ensures)) (small .small .ensures .0) _ (start .pre .2),
+    )
 
 returns : tie.Need-returns
 returns c =
@@ -23,4 +26,5 @@ returns c =
 pub has-pieces-spec : {M : Type 1} → statement M
 has-pieces-spec =
     tie.close
-    (tie.spec (λ c κs. search needs) (λ c. search needs) (λ c. search needs) (λ c. search needs) (λ c. search needs) (λ c. search needs) (λ c κs. search needs) (λ c. search needs) (λ c κs. search needs) (λ c κs. search needs) fit-requires returns)
+    (tie.spec (λ c κs. search needs) (λ c. search needs) (λ c. search needs) (λ c. search needs) (λ c. search needs) (λ c. search needs)
+    (λ c κs. search needs) (λ c. search needs) (λ c κs. search needs) (λ c κs. search needs) fit-requires returns)

@@ -1,69 +1,63 @@
 -- The invariant: the records on the way lie inside, and the rest of the walk gives what the whole walk gives. Assumes nothing.
-use Prim.Native.Nat.{_-_, _≤_}
+use Prim.Native.Nat.{suc, _-_, _<_, _≤_}
 use mathlib.Core.Path.{_≡_, refl, sym, ap, _∙_}
-use mathlib.Core.Bool.{true}
 use native.Mathlib.Omega.{arith}
 use Rattle.octets.specs.Lists.{all}
 use Rattle.machine.specs.Limits.{recCount}
-use Rattle.machine.specs.Counting.{inside}
-use Rattle.machine.specs.Chains.{link, walk}
-use Rattle.machine.specs.Layout.{recAt}
 use Rattle.soundness.specs.Walked.{unlike}
-use Rattle.soundness.proofs.Walking.{walk-end, walk-out, walk-in, walk-all}
-use Rattle.soundness.proofs.Rests.{unlike-bad, unlike-more}
+use Rattle.soundness.proofs.Rests.{onward, Way, way-end, way-out, way-at, way-on, unlike-bad, unlike-more}
 use Rattle.soundness.proofs.records.no_other.Statement.{statement}
 use Rattle.soundness.proofs.records.no_other.Tie as tie
 
 abbrev Inv-loop : tie.InvT-loop
-Inv-loop s cells x first made y₀ n₀ y n =
-    (n ≤ 9) × (all (inside recCount) (walk (link (recAt s)) (9 - n) y) ≡ true)
-    × (all (unlike s x) (walk (link (recAt s)) (9 - made) first) ≡ all (unlike s x) (walk (link (recAt s)) (9 - n) y))
+Inv-loop s cells x first made y₀ n₀ y n = Way s y n × (all (unlike s x) (onward s made first) ≡ all (unlike s x) (onward s n y))
 
 abbrev μ-loop : tie.MeasureT-loop
-μ-loop s cells x first made y₀ n₀ y n = 9 - n
+μ-loop s cells x first made y₀ n₀ y n = suc recCount - n
+
+-- the loop where a record is there, and the function's start
+abbrev here : tie.Else1 Inv-loop μ-loop → tie.At-loop Inv-loop μ-loop
+here c = c .before .before
+
+abbrev start : tie.At-loop Inv-loop μ-loop → tie.Start Inv-loop μ-loop
+start c = c .before .before
+
+at : (c : tie.Else1 Inv-loop μ-loop) → (0 < here c .loop .y) × (here c .loop .y ≤ recCount)
+at c = way-at (here c .loop .inv .0) (omega arith) (c .if1 .left)
 
 loop-holds : tie.Need-loop-holds Inv-loop μ-loop
-loop-holds c = (c .before .pre .2, c .before .pre .3, refl)
+loop-holds c = (record { turns = c .before .pre .2; within = c .before .pre .3 }, refl)
 
 returns : tie.Need-returns Inv-loop μ-loop
-returns c = sym (c .before .before .loop .inv .2 ∙ ap (all (unlike _ _)) (walk-end _ _ _ (c .if1 .taken)))
+returns c =
+    let inv = c .before .before .loop .inv in
+    sym (inv .1 ∙ ap (all (unlike _ _)) (way-end (inv .0) (c .if1 .taken)))
 
 same-key-requires : tie.Need-same-key-requires Inv-loop μ-loop
-same-key-requires c κs =
-    let l = c .before .before in
-    let start = l .before .before in
-    let w = walk-in (link (recAt (start .args .s .now))) recCount 9 (l .loop .n) (l .loop .y) (c .before .loop-test .taken) (c .if1 .left) (l .loop .inv .1) in
-    (start .pre .0, start .pre .1, w)
+same-key-requires c κs = let s = start (here c) in (s .pre .0, s .pre .1, at c)
 
 returns-2 : tie.Need-returns-2 Inv-loop μ-loop
 returns-2 c =
-    let e1 = c .before .before in
-    let l = e1 .before .before in
-    let start = l .before .before in
-    sym (l .loop .inv .2 ∙ unlike-bad _ 9 _ _ (e1 .before .loop-test .taken) (e1 .if1 .left) _ (sym (c .before .same-key .ensures) ∙ c .if2 .taken))
+    let e = c .before .before in
+    let inv = here e .loop .inv in
+    sym (inv .1 ∙ unlike-bad (inv .0) (omega arith) (e .if1 .left) _ (sym (c .before .same-key .ensures) ∙ c .if2 .taken))
 
 byte-requires : tie.Need-byte-requires Inv-loop μ-loop
-byte-requires c κs =
-    let e1 = c .before .before in
-    let l = e1 .before .before in
-    let start = l .before .before in
-    let w = walk-in (link (recAt (start .args .s .now))) recCount 9 (l .loop .n) (l .loop .y) (e1 .before .loop-test .taken) (e1 .if1 .left) (l .loop .inv .1) in
-    (start .pre .0, w, omega arith)
+byte-requires c κs = let e = c .before .before in (start (here e) .pre .0, at e, omega arith)
 
 loop-again : tie.Need-loop-again Inv-loop μ-loop
 loop-again c =
-    let e1 = c .before .before .before in
-    let l = e1 .before .before in
-    let start = l .before .before in
-    let next = sym (c .byte .ensures) in (
-      omega arith,
-      walk-all _ _ 9 _ _ _ (e1 .before .loop-test .taken) (e1 .if1 .left) next (l .loop .inv .1) .1,
-      l .loop .inv .2
-          ∙ unlike-more _ 9 _ _ (e1 .before .loop-test .taken) (e1 .if1 .left) _ _ next (sym (c .before .before .same-key .ensures) ∙ c .before .if2 .left),
+    let same = c .before .before in
+    let e = same .before in
+    let inv = here e .loop .inv in (
+      way-on (inv .0) (omega arith) (e .if1 .left) (c .byte .ensures),
+      inv .1 ∙ unlike-more (inv .0) (omega arith) (e .if1 .left) _ (c .byte .ensures) (sym (same .same-key .ensures) ∙ c .before .if2 .left),
     )
 
 returns-3 : tie.Need-returns-3 Inv-loop μ-loop
-returns-3 c = sym (c .before .loop .inv .2 ∙ ap (all (unlike _ _)) (walk-out _ _ _ _ (c .loop-test .left)))
+returns-3 c =
+    let inv = c .before .loop .inv in
+    sym (inv .1 ∙ ap (all (unlike _ _)) (way-out (inv .0) (c .loop-test .left)))
 
 pub no-other-spec : {M : Type 1} → statement M
 no-other-spec =

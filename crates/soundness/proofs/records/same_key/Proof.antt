@@ -14,9 +14,11 @@ returns c =
     let one = other .before in
     let start = one .before .before in
     c .equal .ensures
-    ∙ (λ i. same (key-is (start .args .s .now) (start .args .x) _ (one .record-at .ensures) i) (key-is (start .args .s .now) (start .args .y) _ (other .record-at2 .ensures) i))
+    ∙ (λ i. same (key-is (start .args .s .now) (start .args .x) _ (one .record-at .ensures) i)
+    (key-is (start .args .s .now) (start .args .y) _ (other .record-at2 .ensures) i))
 
 pub same-key-spec : {M : Type 1} → statement M
 same-key-spec =
     tie.close
-    (tie.spec (λ c κs. search needs) (λ c. search needs) (λ c κs. search needs) (λ c. search needs) (λ c. search needs) (λ c. search needs) (λ c. search needs) (λ c. search needs) (λ c. search needs) (λ c. search needs) (λ c. search needs) (λ c. search needs) (λ c κs. search needs) returns)
+    (tie.spec (λ c κs. search needs) (λ c. search needs) (λ c κs. search needs) (λ c. search needs) (λ c. search needs) (λ c. search needs)
+    (λ c. search needs) (λ c. search needs) (λ c. search needs) (λ c. search needs) (λ c. search needs) (λ c. search needs) (λ c κs. search needs) returns)

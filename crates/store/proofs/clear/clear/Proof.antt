@@ -6,11 +6,14 @@ use Rattle.store.proofs.clear.clear.Tie as tie
 
 returns : tie.Need-returns
 returns c =
-    let c5 = c .before .before .before .before .before in
-    let start = c5 .before .before .before .before .before .before .before in
-    clear-is (start .args .store .now) _ _ (start .args .first) _ (c5 .before .before .before .free-cells .ensures) (c5 .or-else .ensures) (c .before .before .copy-in .ensures)
+    let copy = c .before .before in
+    let link = copy .before .before .before in
+    let free = link .before .before .before in
+    let a = free .before .before .before .before .args in
+    clear-is (a .store .now) (a .first) (free .free-cells .ensures) (link .or-else .ensures) (copy .copy-in .ensures)
 
 pub clear-spec : {M : Type 1} → statement M
 clear-spec =
     tie.close
-    (tie.spec (λ c. search needs) (λ c κs. search needs) (λ c κs. search needs) (λ c. search needs) (λ c κs. search needs) (λ c. search needs) returns)
+    (tie.spec (λ c. search needs) (λ c κs. search needs) (λ c. search needs) (λ c κs. search needs) (λ c. search needs)
+    (λ c κs. search needs) (λ c. search needs) returns)

@@ -1,16 +1,17 @@
 -- The invariant: freeing goes on from the cell that is reached, in the store as it is then. Assumes nothing.
-use Prim.Native.Nat.{_-_}
+use Prim.Native.Nat.{suc, _-_}
 use native.Mathlib.Omega.{arith}
 use mathlib.Core.Path.{refl}
+use Rattle.machine.specs.Limits.{mostCells}
 use Rattle.store.proofs.Clears.{Freeing, frees-out, frees-end, frees-on}
 use Rattle.store.proofs.clear.free_cells.Statement.{statement}
 use Rattle.store.proofs.clear.free_cells.Tie as tie
 
 abbrev Inv-loop : tie.InvT-loop
-Inv-loop store₀ first end p₀ n₀ store p n = Freeing end first store₀ store p n
+Inv-loop store₀ first end place₀ n₀ store place n = Freeing end first store₀ store place n
 
 abbrev μ-loop : tie.MeasureT-loop
-μ-loop store₀ first end p₀ n₀ store p n = 46 - n
+μ-loop store₀ first end place₀ n₀ store place n = suc mostCells - n
 
 loop-holds : tie.Need-loop-holds Inv-loop μ-loop
 loop-holds c = record { turns = omega arith; chain = c .before .pre; long = refl; gives = refl }
@@ -19,7 +20,7 @@ same-length : tie.Need-same-length Inv-loop μ-loop
 same-length c = c .before .before .loop .inv .long
 
 returns : tie.Need-returns Inv-loop μ-loop
-returns c = frees-end _ _ _ _ _ _ (c .before .before .loop .inv) (omega arith) (c .if1 .taken)
+returns c = frees-end (c .before .before .loop .inv) (omega arith) (c .if1 .taken)
 
 free-cell-requires : tie.Need-free-cell-requires Inv-loop μ-loop
 free-cell-requires c κs = (omega (arith, c .before .if1 .left), c .before .before .before .loop .inv .chain)
@@ -32,14 +33,15 @@ loop-less c = omega arith
 
 loop-again : tie.Need-loop-again Inv-loop μ-loop
 loop-again c =
-    let f = c .before .before in
-    frees-on _ _ _ _ _ _ (f .before .before .before .before .loop .inv) (omega arith) _ _ (f .before .before .if1 .left) (f .free-cell .ensures .0) (f .free-cell .ensures .1)
+    let free = c .before .before in
+    let left = free .before .before in
+    frees-on (left .before .before .loop .inv) (omega arith) _ _ (left .if1 .left) (free .free-cell .ensures .0) (free .free-cell .ensures .1)
 
 same-length-2 : tie.Need-same-length-2 Inv-loop μ-loop
 same-length-2 c = c .before .loop .inv .long
 
 returns-2 : tie.Need-returns-2 Inv-loop μ-loop
-returns-2 c = frees-out _ _ _ _ _ _ (c .before .loop .inv) (c .loop-test .left)
+returns-2 c = frees-out (c .before .loop .inv) (c .loop-test .left)
 
 pub free-cells-spec : {M : Type 1} → statement M
 free-cells-spec =

@@ -1,42 +1,42 @@
 -- Assumes nothing.
-use borrow.Author.Needs.{needs}
-use Rattle.octets.specs.BoolsLaws.{one-le}
 use Rattle.machine.specs.Codes.{roleReceive}
 use Rattle.store.specs.MetLaws.{here-reached}
-use Rattle.store.specs.OpenedLaws.{head-fine}
+use Rattle.store.specs.OpenedLaws.{fine-fields}
 use Rattle.store.specs.RestartedLaws.{restart-chain, restarted}
-use mathlib.Core.Path.{refl}
+use borrow.Author.Needs.{needs}
 use Rattle.store.proofs.restart.restart.Statement.{statement}
 use Rattle.store.proofs.restart.restart.Tie as tie
 
+-- where the record's row starts
+abbrev known : tie.After-row-at → tie.After-slice-known
+known c = c .before .before .before
+
 row-at-requires : tie.Need-row-at-requires
-row-at-requires c κs =
-    let c5 = c .before .before .before .before .before in
-    here-reached roleReceive _ (λ i. c5 .slice-known .given i .fits) _ (c5 .before .pre .0)
+row-at-requires c κs = let k = c .before .before in here-reached roleReceive _ (λ i. k .slice-known .given i .fits) _ (k .before .pre .0)
+
+put-row-requires : tie.Need-put-row-requires
+put-row-requires c κs = let row = c .before .before in (fine-fields (known row .before .pre .2), row .row-at .ensures .1)
 
 clear-requires : tie.Need-clear-requires
 clear-requires c κs =
-    let c3 = c .before .before .before in
-    let c6 = c3 .before .before .before in
-    let c12 = c6 .before .before .before .before .before .before in
-    let start = c12 .before in
-    restart-chain (start .args .store .now) (λ i. c12 .slice-known .given i .fits) (start .args .at) (start .pre .0) _ (start .pre .2)
-    _ _ _ (c6 .row-at .ensures .0) (c3 .put-row .ensures) refl
+    let written = c .before .before .before .before in
+    let row = written .before .before .before in
+    let k = known row in
+    let start = k .before in
+    restart-chain (start .args .store .now) (λ i. k .slice-known .given i .fits) (start .args .at) (start .pre .0) _ (fine-fields (start .pre .2))
+    _ _ _ (row .row-at .ensures .0) (written .put-row .ensures) (c .small .ensures .0)
 
 returns : tie.Need-returns
 returns c =
-    let c6 = c .before .before .before .before .before .before in
-    let c9 = c6 .before .before .before in
-    let c11 = c9 .before .before in
-    let c15 = c11 .before .before .before .before in
-    let start = c15 .before in
-    restarted (start .args .store .now) (λ i. c15 .slice-known .given i .fits) (start .args .at) (start .pre .0) _ (start .pre .2)
-    _ _ _ (c9 .row-at .ensures .0) (c6 .put-row .ensures) refl
-    (head-fine _ (start .pre .2) (one-le (start .args .reply)) (λ i. c11 .before .before .before .shared-slice-known .given i .fits)
-    (λ i. c11 .before .before .shared-slice-known2 .given i .fits) (λ i. c11 .before .shared-slice-known3 .given i .fits) (λ i. c11 .shared-slice-known4 .given i .fits))
-    (start .pre .1) _ (c .before .before .clear .ensures)
+    let small = c .before .before .before in
+    let written = small .before .before .before .before in
+    let row = written .before .before .before in
+    let k = known row in
+    let start = k .before in
+    restarted (start .args .store .now) (λ i. k .slice-known .given i .fits) (start .args .at) (start .pre .0) _ (fine-fields (start .pre .2))
+    _ _ _ (row .row-at .ensures .0) (written .put-row .ensures) (small .small .ensures .0) (start .pre .2) (start .pre .1) _ (c .before .before .clear .ensures)
 
 pub restart-spec : {M : Type 1} → statement M
 restart-spec =
     tie.close
-    (tie.spec row-at-requires (λ c. search needs) (λ c. search needs) (λ c κs. search needs) clear-requires (λ c. search needs) returns)
+    (tie.spec row-at-requires (λ c. search needs) (λ c. search needs) put-row-requires (λ c κs. search needs) clear-requires (λ c. search needs) returns)

@@ -23,7 +23,8 @@ abbrev μ-loop : tie.MeasureT-loop
 μ-loop book topic source at₀ at = length book - at
 
 -- the entry ends within the book
-here : (c : tie.In-loop Inv-loop μ-loop) → endAt (c .before .before .before .before .args .book .now) (c .before .loop .at) ≤ length (c .before .before .before .before .args .book .now)
+here : (c : tie.In-loop Inv-loop μ-loop) → endAt (c .before .before .before .before .args .book .now)
+    (c .before .loop .at) ≤ length (c .before .before .before .before .args .book .now)
 here c = uncut-here (c .before .before .before .before .args .book .now) (c .before .loop .at) (c .loop-test .taken) (c .before .loop .inv .0)
 
 loop-holds : tie.Need-loop-holds Inv-loop μ-loop
@@ -42,8 +43,10 @@ returns c =
     let l = c .before .before .before .before .before in
     let s = l .before .before .before .args in
     c .is-within .ensures
-    ∙ cond-first _ _ _ _ (sym (c .before .before .equal .ensures ∙ ap (λ (x : List ℕ). same x (s .topic .now)) (c .before .before .before .topic-at .ensures)) ∙ c .before .if1 .taken)
-    (left-step (s .book .now) (l .loop .at) _ refl (c .before .before .before .before .loop-test .taken) (by (s .book .now) (s .topic .now) (s .source .now)) _ (l .loop .inv))
+    ∙ cond-first _ _ _ _ (sym
+    (c .before .before .equal .ensures ∙ ap (λ (x : List ℕ). same x (s .topic .now)) (c .before .before .before .topic-at .ensures)) ∙ c .before .if1 .taken)
+    (left-step (s .book .now) (l .loop .at) _ refl (c .before .before .before .before .loop-test .taken)
+    (by (s .book .now) (s .topic .now) (s .source .now)) _ (l .loop .inv))
 
 end-at-requires : tie.Need-end-at-requires Inv-loop μ-loop
 end-at-requires c κs = let h = here (c .before .before .before) in (omega arith, omega arith)
@@ -53,9 +56,10 @@ unfolding admittedBy
 loop-again c =
     let l = c .before .before .before .before .before in
     let s = l .before .before .before .args in
-    let t = c .before .before .before .before .loop-test .taken in (
+    let t = c .before .before .before .before .loop-test .taken in
+    let other = c .before .before .equal .ensures ∙ ap (λ (x : List ℕ). same x (s .topic .now)) (c .before .before .before .topic-at .ensures) in (
       uncut-on (s .book .now) (l .loop .at) _ (c .end-at .ensures) t (l .loop .inv .0),
-      cond-second _ _ _ _ (sym (c .before .before .equal .ensures ∙ ap (λ (x : List ℕ). same x (s .topic .now)) (c .before .before .before .topic-at .ensures)) ∙ c .before .if1 .left)
+      cond-second _ _ _ _ (sym other ∙ c .before .if1 .left)
           (left-step (s .book .now) (l .loop .at) _ (c .end-at .ensures) t (by (s .book .now) (s .topic .now) (s .source .now)) _ (l .loop .inv)),
     )
 
@@ -63,9 +67,11 @@ returns-2 : tie.Need-returns-2 Inv-loop μ-loop
 unfolding admittedBy
 returns-2 c =
     let s = c .before .before .before .before .before .args in
-    left-end (by (s .book .now) (s .topic .now) (s .source .now)) (s .book .now) (c .before .before .loop .at) _ (c .before .before .loop .inv) (c .before .loop-test .left)
+    left-end (by (s .book .now) (s .topic .now) (s .source .now)) (s .book .now) (c .before .before .loop .at) _
+    (c .before .before .loop .inv) (c .before .loop-test .left)
 
 pub admits-spec : {M : Type 1} → statement M
 admits-spec =
     tie.close
-    (tie.spec Inv-loop μ-loop loop-holds topic-at-requires (λ c κs. tt) is-within-requires returns end-at-requires (λ c. omega arith) loop-again (λ c. omega arith) returns-2)
+    (tie.spec Inv-loop μ-loop loop-holds topic-at-requires (λ c κs. tt) is-within-requires returns end-at-requires
+    (λ c. omega arith) loop-again (λ c. omega arith) returns-2)

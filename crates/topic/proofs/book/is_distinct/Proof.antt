@@ -17,7 +17,8 @@ abbrev μ-loop : tie.MeasureT-loop
 μ-loop book at₀ at = length book - at
 
 -- the entry ends within the book
-here : (c : tie.In-loop Inv-loop μ-loop) → endAt (c .before .before .before .args .book .now) (c .before .loop .at) ≤ length (c .before .before .before .args .book .now)
+here : (c : tie.In-loop Inv-loop μ-loop)
+    → endAt (c .before .before .before .args .book .now) (c .before .loop .at) ≤ length (c .before .before .before .args .book .now)
 here c = uncut-here (c .before .before .before .args .book .now) (c .before .loop .at) (c .loop-test .taken) (c .before .loop .inv .0)
 
 loop-holds : tie.Need-loop-holds Inv-loop μ-loop
@@ -40,7 +41,8 @@ returns c =
     let l = c .before .before .before .before .before in
     let b = l .before .before .args .book .now in
     let e = c .before .before .before .end-at in
-    and-off _ _ _ (ap not (sym (c .before .is-listed .ensures ∙ ap (λ (x : List ℕ). listed x (entriesFrom b (e .result))) (c .before .before .topic-at .ensures)) ∙ c .if1 .taken))
+    and-off _ _ _ (ap not
+    (sym (c .before .is-listed .ensures ∙ ap (λ (x : List ℕ). listed x (entriesFrom b (e .result))) (c .before .before .topic-at .ensures)) ∙ c .if1 .taken))
     (left-step b (l .loop .at) _ (e .ensures) (c .before .before .before .before .loop-test .taken) distinct _ (l .loop .inv))
 
 loop-again : tie.Need-loop-again Inv-loop μ-loop
@@ -51,7 +53,8 @@ loop-again c =
     let t = c .before .before .before .before .loop-test .taken in
     let e = c .before .before .before .end-at in (
       uncut-on b (l .loop .at) _ (e .ensures) t (l .loop .inv .0),
-      and-on _ _ _ (ap not (sym (c .before .is-listed .ensures ∙ ap (λ (x : List ℕ). listed x (entriesFrom b (e .result))) (c .before .before .topic-at .ensures)) ∙ c .if1 .left))
+      and-on _ _ _ (ap not (sym
+          (c .before .is-listed .ensures ∙ ap (λ (x : List ℕ). listed x (entriesFrom b (e .result))) (c .before .before .topic-at .ensures)) ∙ c .if1 .left))
           (left-step b (l .loop .at) _ (e .ensures) t distinct _ (l .loop .inv)),
     )
 

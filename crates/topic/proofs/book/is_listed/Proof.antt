@@ -17,7 +17,8 @@ abbrev μ-loop : tie.MeasureT-loop
 μ-loop book from topic at₀ at = length book - at
 
 -- the entry ends within the book
-here : (c : tie.In-loop Inv-loop μ-loop) → endAt (c .before .before .before .before .args .book .now) (c .before .loop .at) ≤ length (c .before .before .before .before .args .book .now)
+here : (c : tie.In-loop Inv-loop μ-loop) → endAt (c .before .before .before .before .args .book .now)
+    (c .before .loop .at) ≤ length (c .before .before .before .before .args .book .now)
 here c = uncut-here (c .before .before .before .before .args .book .now) (c .before .loop .at) (c .loop-test .taken) (c .before .loop .inv .0)
 
 loop-holds : tie.Need-loop-holds Inv-loop μ-loop
@@ -42,7 +43,8 @@ loop-again c =
     let s = l .before .before .before .args in
     let t = c .before .before .before .before .loop-test .taken in (
       uncut-on (s .book .now) (l .loop .at) _ (c .end-at .ensures) t (l .loop .inv .0),
-      or-on _ _ _ (sym (c .before .before .equal .ensures ∙ ap (λ (x : List ℕ). same x (s .topic .now)) (c .before .before .before .topic-at .ensures)) ∙ c .before .if1 .left)
+      or-on _ _ _ (sym (c .before .before .equal .ensures
+          ∙ ap (λ (x : List ℕ). same x (s .topic .now)) (c .before .before .before .topic-at .ensures)) ∙ c .before .if1 .left)
           (left-step (s .book .now) (l .loop .at) _ (c .end-at .ensures) t (listed (s .topic .now)) _ (l .loop .inv)),
     )
 

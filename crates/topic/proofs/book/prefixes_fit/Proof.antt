@@ -16,7 +16,8 @@ abbrev μ-loop : tie.MeasureT-loop
 μ-loop book at₀ at = length book - at
 
 -- the entry ends within the book
-here : (c : tie.In-loop Inv-loop μ-loop) → endAt (c .before .before .before .args .book .now) (c .before .loop .at) ≤ length (c .before .before .before .args .book .now)
+here : (c : tie.In-loop Inv-loop μ-loop)
+    → endAt (c .before .before .before .args .book .now) (c .before .loop .at) ≤ length (c .before .before .before .args .book .now)
 here c = uncut-here (c .before .before .before .args .book .now) (c .before .loop .at) (c .loop-test .taken) (c .before .loop .inv .0)
 
 loop-holds : tie.Need-loop-holds Inv-loop μ-loop
@@ -40,7 +41,8 @@ loop-again c =
     let b = l .before .before .args .book .now in
     let t = c .before .before .before .loop-test .taken in (
       uncut-on b (l .loop .at) _ (c .end-at .ensures) t (l .loop .inv .0),
-      and-on _ _ _ (sym (c .before .before .subnets-fit .ensures) ∙ not-false _ (c .before .if1 .left)) (left-step b (l .loop .at) _ (c .end-at .ensures) t allFit _ (l .loop .inv)),
+      and-on _ _ _ (sym (c .before .before .subnets-fit .ensures) ∙ not-false _ (c .before .if1 .left))
+          (left-step b (l .loop .at) _ (c .end-at .ensures) t allFit _ (l .loop .inv)),
     )
 
 returns-2 : tie.Need-returns-2 Inv-loop μ-loop

@@ -13,15 +13,19 @@ use Rattle.topic.proofs.entry.is_within.Statement.{statement}
 use Rattle.topic.proofs.entry.is_within.Tie as tie
 
 abbrev Inv-loop : tie.InvT-loop
-Inv-loop book at source count o₀ left₀ o left = (o + subnetBytes * left ≤ length book) × (within source (subnetsAt book o left) ≡ within source (subnetsOf book at))
+Inv-loop book at source count o₀ left₀ o left =
+    (o + subnetBytes * left ≤ length book) × (within source (subnetsAt book o left) ≡ within source (subnetsOf book at))
 
 abbrev μ-loop : tie.MeasureT-loop
 μ-loop book at source count o₀ left₀ o left = left
 
 -- the slice that is handed over is the subnet's address
-held : (b : List ℕ) (o : ℕ) (source : List ℕ) (r : Bool) → r ≡ containsOf (take (o + addressBytes - o) (drop o b)) (getD b (o + addressBytes) 0) source → containsOf (subnetAt b o .net) (subnetAt b o .bits) source ≡ r
+held : (b : List ℕ) (o : ℕ) (source : List ℕ) (r : Bool)
+    → r ≡ containsOf (take (o + addressBytes - o) (drop o b)) (getD b (o + addressBytes) 0) source
+    → containsOf (subnetAt b o .net) (subnetAt b o .bits) source ≡ r
 unfolding part
-held b o source r h = let e : addressBytes ≡ o + addressBytes - o = omega arith in ap (λ (n : ℕ). containsOf (take n (drop o b)) (getD b (o + addressBytes) 0) source) e ∙ sym h
+held b o source r h =
+    let e : addressBytes ≡ o + addressBytes - o = omega arith in ap (λ (n : ℕ). containsOf (take n (drop o b)) (getD b (o + addressBytes) 0) source) e ∙ sym h
 
 loop-holds : tie.Need-loop-holds Inv-loop μ-loop
 loop-holds c =
@@ -54,4 +58,6 @@ returns-2 c =
 pub is-within-spec : {M : Type 1} → statement M
 is-within-spec =
     tie.close
-    (tie.spec Inv-loop μ-loop (λ c κs. omega arith) (λ c. omega arith) (λ c. omega arith) (λ c κs. tt) loop-holds (λ c. omega arith) (λ c. omega arith) (λ c. omega arith) (λ c. omega arith) (λ c. omega arith) (λ c κs. tt) returns (λ c. omega arith) (λ c. omega arith) (λ c. omega arith) loop-again returns-2)
+    (tie.spec Inv-loop μ-loop (λ c κs. omega arith) (λ c. omega arith) (λ c. omega arith) (λ c κs. tt) loop-holds
+    (λ c. omega arith) (λ c. omega arith) (λ c. omega arith) (λ c. omega arith) (λ c. omega arith) (λ c κs. tt) returns
+    (λ c. omega arith) (λ c. omega arith) (λ c. omega arith) loop-again returns-2)

@@ -24,12 +24,16 @@ loop-holds c =
 returns : tie.Need-returns Inv-loop μ-loop
 returns c =
     let l = c .before .before .before in
-    and-off _ _ _ (lt-leb _ _ (c .if1 .taken)) (sym (ap fits (subnets-step _ (l .loop .o) (l .loop .left) (c .before .before .loop-test .taken))) ∙ l .loop .inv .1)
+    and-off _ _ _ (lt-leb _ _ (c .if1 .taken))
+    (sym (ap fits (subnets-step _ (l .loop .o) (l .loop .left) (c .before .before .loop-test .taken))) ∙ l .loop .inv .1)
 
 loop-again : tie.Need-loop-again Inv-loop μ-loop
 loop-again c =
-    let l = c .before .before .before in
-    (omega arith, and-on _ _ _ (le-leb _ _ (c .if1 .left)) (sym (ap fits (subnets-step _ (l .loop .o) (l .loop .left) (c .before .before .loop-test .taken))) ∙ l .loop .inv .1))
+    let l = c .before .before .before in (
+      omega arith,
+      and-on _ _ _ (le-leb _ _ (c .if1 .left))
+          (sym (ap fits (subnets-step _ (l .loop .o) (l .loop .left) (c .before .before .loop-test .taken))) ∙ l .loop .inv .1),
+    )
 
 returns-2 : tie.Need-returns-2 Inv-loop μ-loop
 unfolding subnetsAt
@@ -41,4 +45,5 @@ returns-2 c =
 pub subnets-fit-spec : {M : Type 1} → statement M
 subnets-fit-spec =
     tie.close
-    (tie.spec Inv-loop μ-loop (λ c κs. omega arith) (λ c. omega arith) (λ c. omega arith) (λ c κs. tt) loop-holds (λ c. omega arith) (λ c. omega arith) returns (λ c. omega arith) (λ c. omega arith) (λ c. omega arith) loop-again returns-2)
+    (tie.spec Inv-loop μ-loop (λ c κs. omega arith) (λ c. omega arith) (λ c. omega arith) (λ c κs. tt) loop-holds (λ c. omega arith)
+    (λ c. omega arith) returns (λ c. omega arith) (λ c. omega arith) (λ c. omega arith) loop-again returns-2)

@@ -21,14 +21,16 @@ loop-holds c = (omega arith, refl)
 returns : tie.Need-returns Inv-loop μ-loop
 returns c =
     let l = c .before .before .before .before in
-    sym (inside-off _ _ (l .loop .i) (omega (arith, l .before .before .shared-slice-known .given (l .loop .i))) (omega (arith, l .before .shared-slice-known2 .given (l .loop .i)))
+    sym (inside-off _ _ (l .loop .i) (omega (arith, l .before .before .shared-slice-known .given (l .loop .i)))
+    (omega (arith, l .before .shared-slice-known2 .given (l .loop .i)))
     _ (omega arith) (c .if1 .taken))
 
 loop-again : tie.Need-loop-again Inv-loop μ-loop
 loop-again c =
     let l = c .before .before .before .before in (
       omega arith,
-      inside-on _ _ (l .loop .i) (omega (arith, l .before .before .shared-slice-known .given (l .loop .i))) (omega (arith, l .before .shared-slice-known2 .given (l .loop .i)))
+      inside-on _ _ (l .loop .i) (omega (arith, l .before .before .shared-slice-known .given (l .loop .i)))
+          (omega (arith, l .before .shared-slice-known2 .given (l .loop .i)))
           (l .loop .inv .1) (c .if1 .left),
     )
 
@@ -48,10 +50,12 @@ returns-3 c =
     let q : ℕ = s .bits / 8 in
     let e : l .loop .i ≡ q = omega arith in
     c .alike .ensures
-    ∙ sym (inside-last (s .a .now) (s .net .now) q (omega (arith, l .before .before .shared-slice-known .given q)) (omega (arith, l .before .shared-slice-known2 .given q)) _ refl
+    ∙ sym (inside-last (s .a .now) (s .net .now) q (omega (arith, l .before .before .shared-slice-known .given q))
+    (omega (arith, l .before .shared-slice-known2 .given q)) _ refl
     (ap (λ (n : ℕ). inside (s .a .now) (s .net .now) (8 * n)) (sym e) ∙ l .loop .inv .1))
 
 pub agree-spec : {M : Type 1} → statement M
 agree-spec =
     tie.close
-    (tie.spec Inv-loop μ-loop (λ c. omega arith) loop-holds (λ c. omega arith) (λ c. omega arith) returns (λ c. omega arith) (λ c. omega arith) loop-again returns-2 (λ c. omega arith) (λ c. omega arith) alike-requires returns-3)
+    (tie.spec Inv-loop μ-loop (λ c. omega arith) loop-holds (λ c. omega arith) (λ c. omega arith) returns (λ c. omega arith)
+    (λ c. omega arith) loop-again returns-2 (λ c. omega arith) (λ c. omega arith) alike-requires returns-3)

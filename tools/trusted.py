@@ -45,6 +45,7 @@ class Module:
         self.path = f"crates/{crate}/specs/{name}.antt"
         text = read(self.path)
         self.lines = text.count("\n")
+        text = re.sub(r"^use [^{}\n]*\{[^}]*\}", lambda use: " ".join(use.group(0).split()), text, flags=re.M)  # each on one line
         self.about = re.match(r"-- (.*)", text).group(1)
         self.imports = {}
         for use in USE.finditer(text):

@@ -1,5 +1,6 @@
 // A node's address, made of its public key: a port of `PublicKey::address`.
 
+use rows::answer;
 ghost use mathlib.Core.Path.{_≡_};
 ghost use Prim.Native.Nat.{_<_};
 ghost use Rattle.address.specs.Address.{firstByte, addressOf};

@@ -14,10 +14,10 @@ use Rattle.machine.specs.Find.{isSome}
 use Rattle.machine.specs.Pieces.{pieceAt}
 use Rattle.machine.specs.Refusals.{Refusals, refusal, asksOf}
 use Rattle.machine.specs.Packet.{tooShort, cellsNeeded}
-use Rattle.steps.specs.Refusals.{positive}
-use Rattle.store.specs.HeldAt.{metAt, placeAt, recIn}
-use Rattle.store.specs.RefuseLaws.{front-stop, front-next}
-use Rattle.store.specs.SearchLaws.{Search, ended, asks-met, some-met, passed}
+use Rattle.machine_steps.specs.Refusals.{positive}
+use Rattle.records.specs.HeldAt.{metAt, placeAt, recIn}
+use Rattle.records.specs.RefuseLaws.{front-stop, front-next}
+use Rattle.records.specs.SearchLaws.{Search, ended, asks-met, some-met, passed}
 
 -- ---- single rows
 

@@ -19,8 +19,8 @@ use Rattle.machine.specs.Receive.{takeStep}
 use Rattle.machine.specs.Refusals.{refusal}
 use Rattle.machine.specs.Outcomes.{TakeOutcome}
 use Rattle.machine.specs.Take.{takeRoom, takenRoom, oldestRow, takeAt, takenBytes, takeOut}
-use Rattle.store.specs.RefuseLaws.{next, stop, clear}
-use Rattle.store.specs.HeldAt.{rowIn, recIn}
+use Rattle.records.specs.RefuseLaws.{next, stop, clear}
+use Rattle.records.specs.HeldAt.{rowIn, recIn}
 use Rattle.inbox.specs.OldestLaws.{none-whole, some-whole, oldest-sized}
 use Rattle.inbox.specs.Oldest.{Oldest}
 

@@ -13,9 +13,9 @@ use Rattle.packet.specs.Outgoing.{entry, header, readPacket}
 use Rattle.machine.specs.Layout.{wholeAt, firstCellAt, recOff, labelOf, recOf, readCells}
 use Rattle.machine.specs.Pieces.{joined}
 use Rattle.machine.specs.Sound.{sizes}
-use Rattle.steps.specs.ByIndex.{length-joined}
-use Rattle.store.specs.MetLaws.{rec-cells}
-use Rattle.store.specs.HeldAt.{placeAt, rowIn, recIn, Reached}
+use Rattle.machine_steps.specs.ByIndex.{length-joined}
+use Rattle.records.specs.MetLaws.{rec-cells}
+use Rattle.records.specs.HeldAt.{placeAt, rowIn, recIn, Reached}
 
 pub read-is : (b out l f t i : List ℕ) → l ≡ put out 0 (entry f t (header i 8)) → f ≡ labelOf (rowIn b wholeAt) .destination → t ≡ labelOf (rowIn b wholeAt) .source
     → i ≡ labelOf (rowIn b wholeAt) .id

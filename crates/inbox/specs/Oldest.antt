@@ -3,7 +3,7 @@ use Prim.Native.Nat.{ℕ, _<_}
 use mathlib.Core.List.{List}
 use lib.ListN.{getD}
 use Rattle.machine.specs.Layout.{wholeAt}
-use Rattle.store.specs.HeldAt.{Receives}
+use Rattle.records.specs.HeldAt.{Receives}
 
 -- a sound store to receive, with a whole record
 pub record Oldest (b : List ℕ) : Type 0 where

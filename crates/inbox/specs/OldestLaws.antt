@@ -17,11 +17,11 @@ use Rattle.machine.specs.Chains.{link, walk}
 use Rattle.machine.specs.Layout.{wholeAt, countAt, firstCellAt, recOff, recAt, labelOf, recOf, readCells, readRec, decode}
 use Rattle.machine.specs.Sound.{sizes, recFits}
 use Rattle.machine.specs.Valid.{LabelSized, RecSized, Valid}
-use Rattle.laws.specs.Fine.{Fine, fits-fine, fine-complete}
-use Rattle.laws.specs.SoundValid.{sound-valid}
-use Rattle.links.specs.Links.{Links}
-use Rattle.links.specs.InRange.{links}
-use Rattle.store.specs.HeldAt.{placeAt, rowIn, recIn, Reached}
+use Rattle.machine_laws.specs.Fine.{Fine, fits-fine, fine-complete}
+use Rattle.machine_laws.specs.SoundValid.{sound-valid}
+use Rattle.machine_writes.specs.Links.{Links}
+use Rattle.machine_writes.specs.InRange.{links}
+use Rattle.records.specs.HeldAt.{placeAt, rowIn, recIn, Reached}
 use Rattle.inbox.specs.Oldest.{Oldest}
 
 -- the whole records, as their chain starts

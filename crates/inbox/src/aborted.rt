@@ -1,12 +1,13 @@
 // Aborted: the sender has given up.
 
-use store::find;
+use records::find;
+use rows::answer;
 ghost use mathlib.Core.Path.{_≡_};
 ghost use Rattle.machine.specs.Layout.{decode};
 ghost use Rattle.machine.specs.Receive.{found, dropStep};
 ghost use Rattle.machine.specs.Refusals.{refusal, heldRow};
-ghost use Rattle.store.specs.HeldAt.{Receives};
-ghost use Rattle.store.specs.Step.{stepped};
+ghost use Rattle.records.specs.HeldAt.{Receives};
+ghost use Rattle.records.specs.Step.{stepped};
 
 // Aborted: the number, and the store without the arriving record.
 pub fn abort(recv: &mut [u8], id: &[u8]) -> u64
@@ -18,10 +19,10 @@ pub fn abort(recv: &mut [u8], id: &[u8]) -> u64
         ⌜ record { number = r; store = now (recv .exit) }
         ≡ stepped (refusal (heldRow (found k (s .held)))) (dropStep k s) b ⌝ }
 {
-    let at = find::find_held(recv, id);
-    if recv[at] == 0 {
+    let link = find::find_held(recv, id);
+    if recv[link] == 0 {
         return answer::UNKNOWN_ID;
     }
-    store::release::drop(recv, at);
+    records::release::drop(recv, link);
     answer::DONE
 }

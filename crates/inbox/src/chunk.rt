@@ -1,8 +1,9 @@
 // Chunk: a piece of a message comes.
 
+use records::field;
+use records::find;
+use rows::answer;
 use rows::message;
-use store::field;
-use store::find;
 ghost use mathlib.Core.Path.{_≡_};
 ghost use Prim.Native.Nat.{_+_, _≤_};
 ghost use lib.ListN.{length};
@@ -14,9 +15,9 @@ ghost use Rattle.machine.specs.Layout.{decode};
 ghost use Rattle.machine.specs.Receive.{found, chunkStep};
 ghost use Rattle.machine.specs.Refusals.{refusal, asksOf};
 ghost use Rattle.machine.specs.Packet.{chunkRow, tooShort, cellsNeeded, pieceRow};
-ghost use Rattle.store.specs.HeldAt.{metAt, placeAt, recIn, HeldAt, Searched, Receives};
-ghost use Rattle.store.specs.Step.{stepped};
-ghost use Rattle.cells.specs.InPlace.{Spot};
+ghost use Rattle.records.specs.HeldAt.{metAt, placeAt, recIn, HeldAt, Searched, Receives};
+ghost use Rattle.records.specs.Step.{stepped};
+ghost use Rattle.pieces.specs.InPlace.{Spot};
 
 // Row 9: whether the piece ends inside the message.
 fn fits(offset: u64, size: u64, total: u64) -> bool
@@ -37,27 +38,27 @@ fn too_short(total: u64, index: u64, offset: u64, size: u64) -> bool
 }
 
 // Row 12: whether there is a cell for the piece, its own or a free one.
-fn has_cell(recv: &[u8], at: usize, link: usize, index: u64) -> bool
-    requires { ⌜ HeldAt roleReceive (now recv) at × Spot (now recv) (placeAt (now recv) at) index link ⌝ }
+fn has_cell(recv: &[u8], link: usize, spot: usize, index: u64) -> bool
+    requires { ⌜ HeldAt roleReceive (now recv) link × Spot (now recv) (placeAt (now recv) link) index spot ⌝ }
     ensures { λ r.
         let b = now (recv .entry) in
-        ⌜ r ≡ leb (cellsNeeded index (recIn b at)) (length (decode b .freeCells)) ⌝ }
+        ⌜ r ≡ leb (cellsNeeded index (recIn b link)) (length (decode b .freeCells)) ⌝ }
 {
-    if cells::pieces::has_piece(recv, at, link, index) {
+    if pieces::held::has_piece(recv, link, spot, index) {
         return true;
     }
     find::is_free_cell(recv)
 }
 
 // Rows 8 to 11: the refusal of a chunk of the record that was searched for.
-fn refusal(recv: &[u8], at: usize, index: u64, offset: u64, size: u64) -> u64
-    requires { ⌜ Searched roleReceive (now recv) at ⌝ }
-    ensures { λ r. ⌜ r ≡ refusal (asksOf (metAt (now (recv .entry)) at) (pieceRow index offset size)) ⌝ }
+fn refusal(recv: &[u8], link: usize, index: u64, offset: u64, size: u64) -> u64
+    requires { ⌜ Searched roleReceive (now recv) link ⌝ }
+    ensures { λ r. ⌜ r ≡ refusal (asksOf (metAt (now (recv .entry)) link) (pieceRow index offset size)) ⌝ }
 {
-    if recv[at] == 0 {
+    if recv[link] == 0 {
         return answer::UNKNOWN_ID;
     }
-    let total = field::total(recv, at);
+    let total = field::total(recv, link);
     if !fits(offset, size, total) {
         return answer::PAST_END;
     }
@@ -81,15 +82,15 @@ pub fn chunk(recv: &mut [u8], id: &[u8], index: u64, offset: u64, piece: &[u8]) 
         ⌜ record { number = r; store = now (recv .exit) }
         ≡ stepped (refusal (chunkRow index offset (length p) s (found k (s .held)))) (chunkStep k index p s) b ⌝ }
 {
-    let at = find::find_held(recv, id);
-    let number = refusal(recv, at, index, offset, piece.len() as u64);
+    let link = find::find_held(recv, id);
+    let number = refusal(recv, link, index, offset, piece.len() as u64);
     if number != answer::DONE {
         return number;
     }
-    let link = cells::pieces::piece_link(recv, at, index);
-    if !has_cell(recv, at, link, index) {
+    let spot = pieces::held::piece_link(recv, link, index);
+    if !has_cell(recv, link, spot, index) {
         return answer::NO_CELL;
     }
-    cells::insert::put_piece(recv, at, link, index, piece);
+    pieces::insert::put_piece(recv, link, spot, index, piece);
     answer::DONE
 }

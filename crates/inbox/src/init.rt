@@ -1,7 +1,8 @@
 // Init: a message is announced, with its length and its topic.
 
 use packet::label::Label;
-use store::find;
+use records::find;
+use rows::answer;
 use topic::Admission;
 ghost use mathlib.Core.Path.{_≡_};
 ghost use mathlib.Core.List.{_++_};
@@ -12,9 +13,9 @@ ghost use Rattle.machine.specs.Layout.{decode};
 ghost use Rattle.machine.specs.Receive.{found, initStep};
 ghost use Rattle.machine.specs.Refusals.{refusal};
 ghost use Rattle.machine.specs.Valid.{LabelSized};
-ghost use Rattle.store.specs.HeldAt.{metAt, Searched, Receives};
-ghost use Rattle.store.specs.Opening.{newLabel};
-ghost use Rattle.store.specs.Step.{stepped};
+ghost use Rattle.records.specs.HeldAt.{metAt, Searched, Receives};
+ghost use Rattle.records.specs.Opening.{newLabel};
+ghost use Rattle.records.specs.Step.{stepped};
 ghost use Rattle.machine.specs.Packet.{rulesRow, placeRow};
 
 // What a rule book says of a topic and a source.
@@ -43,11 +44,11 @@ fn rules_refusal(reply: bool, from: &[u8; 16], topic: &[u8], rules: &[u8]) -> u6
 }
 
 // Rows 5 to 7: the refusal of an init whose id was searched for.
-fn refusal(recv: &[u8], at: usize, id: &[u8], total: u64) -> u64
-    requires { ⌜ Searched roleReceive (now recv) at ⌝ }
+fn refusal(recv: &[u8], link: usize, id: &[u8], total: u64) -> u64
+    requires { ⌜ Searched roleReceive (now recv) link ⌝ }
     ensures { λ r.
         let b = now (recv .entry) in
-        ⌜ r ≡ refusal (placeRow (now (id .entry)) total (decode b) (metAt b at)) ⌝ }
+        ⌜ r ≡ refusal (placeRow (now (id .entry)) total (decode b) (metAt b link)) ⌝ }
 {
     if find::is_whole(recv, id) {
         return answer::ALREADY_WHOLE;
@@ -55,7 +56,7 @@ fn refusal(recv: &[u8], at: usize, id: &[u8], total: u64) -> u64
     if total > rows::message::LONGEST {
         return answer::TOO_LONG;
     }
-    if recv[at] > 0 {
+    if recv[link] > 0 {
         return answer::DONE;
     }
     if find::is_free(recv) {
@@ -83,15 +84,15 @@ pub fn init(recv: &mut [u8], label: Label, topic: &[u8], rules: &[u8]) -> u64
     if refused != answer::DONE {
         return refused;
     }
-    let at = find::find_held(recv, &id);
-    let number = refusal(recv, at, &id, label.total);
+    let link = find::find_held(recv, &id);
+    let number = refusal(recv, link, &id, label.total);
     if number != answer::DONE {
         return number;
     }
-    if recv[at] == 0 {
-        store::open::open_arriving(recv, label, topic);
+    if recv[link] == 0 {
+        records::open::open_arriving(recv, label, topic);
         return answer::DONE;
     }
-    store::restart::restart(recv, at, label, topic);
+    records::restart::restart(recv, link, label, topic);
     answer::DONE
 }

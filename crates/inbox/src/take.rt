@@ -1,11 +1,12 @@
 // Take: the oldest whole message leaves the store.
 
-use answer::Answer;
 use packet::header;
 use packet::run;
+use records::field;
+use rows::answer;
+use rows::answer::Answer;
 use rows::head::Head;
 use rows::record;
-use store::field;
 ghost use mathlib.Core.Path.{_≡_};
 ghost use mathlib.Core.List.{_++_};
 ghost use Prim.Native.Nat.{_+_, _≤_};
@@ -17,7 +18,7 @@ ghost use Rattle.machine.specs.Layout.{wholeAt, decode};
 ghost use Rattle.machine.specs.Pieces.{joined};
 ghost use Rattle.machine.specs.Refusals.{refusal};
 ghost use Rattle.machine.specs.Take.{oldestRow, takeRoom, takeAt};
-ghost use Rattle.store.specs.HeldAt.{rowIn, recIn, Receives};
+ghost use Rattle.records.specs.HeldAt.{rowIn, recIn, Receives};
 ghost use Rattle.inbox.specs.Oldest.{Oldest};
 
 // What a read packet takes in a run.
@@ -51,7 +52,7 @@ fn put_message(recv: &[u8], taken: &mut [u8])
         ≡ put (now (taken .entry)) 0 (rowIn b wholeAt ++ joined (recIn b wholeAt .cells)) ⌝ }
 {
     octets::copy_in(taken, 0, field::whole_row(recv, Head::WHOLE));
-    cells::walk::join(
+    pieces::walk::join(
         recv,
         field::first_cell(recv, Head::WHOLE),
         &mut taken[record::BYTES..],
@@ -88,6 +89,6 @@ pub fn take(recv: &mut [u8], taken: &mut [u8], run: &mut [u8]) -> Answer
     }
     put_read(recv, run);
     put_message(recv, taken);
-    store::release::take_first(recv);
+    records::release::take_first(recv);
     answer::sent(READ_ROOM as u64)
 }

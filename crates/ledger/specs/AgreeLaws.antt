@@ -14,10 +14,10 @@ use Rattle.machine.specs.Chains.{first}
 use Rattle.machine.specs.Find.{find}
 use Rattle.machine.specs.Receive.{recKey, found, replaced, dropped, started, initAt, withPiece, chunkAt, doneAt, dropAt, takeFrom}
 use Rattle.machine.specs.Packet.{Packet, asked, initLabel, recvStep}
-use Rattle.laws.specs.Keys.{key-eq, key-refl}
-use Rattle.steps.specs.Find.{find-key, find-first-same, find-first-other, find-swap-same, find-swap-other, find-without-other}
-use Rattle.steps.specs.Unique.{Unique, find-without-same}
-use Rattle.steps.specs.Pieces.{pieceBytes, bytes-put}
+use Rattle.machine_laws.specs.Keys.{key-eq, key-refl}
+use Rattle.machine_steps.specs.Find.{find-key, find-first-same, find-first-other, find-swap-same, find-swap-other, find-without-other}
+use Rattle.machine_steps.specs.Unique.{Unique, find-without-same}
+use Rattle.machine_steps.specs.Pieces.{pieceBytes, bytes-put}
 use Rattle.ledger.specs.Ledger.{Piece, Page, Book, look, reach, countOf, write, withPage, initIn, chunkIn, doneIn, packetIn, later}
 
 -- ---- what it is to agree

@@ -8,7 +8,7 @@ use Rattle.packet.specs.declared.header.Kind.the-variants.{Init, Chunk, Done, R
 use Rattle.packet.specs.Frame.{chunkIndex, piece}
 use Rattle.machine.specs.Values.{Key, keyOf, sameKey}
 use Rattle.machine.specs.Packet.{Packet, asked, initLabel}
-use Rattle.laws.specs.Keys.{key-eq}
+use Rattle.machine_laws.specs.Keys.{key-eq}
 use Rattle.ledger.specs.Ledger.{Page, Book, write, withPage, chunkIn, doneIn, packetIn}
 
 pub data Deed : Type 0 where

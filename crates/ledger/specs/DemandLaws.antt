@@ -20,7 +20,7 @@ use Rattle.machine.specs.Receive.{found}
 use Rattle.machine.specs.Packet.{Packet, kind, asked, frameBytes, packetRoom, isKind, doneRow, kindRow}
 use Rattle.machine.specs.Take.{takeRow, takeOf}
 use Rattle.octets.specs.ListsLaws.{_&_}
-use Rattle.steps.specs.Held.{held-fine}
+use Rattle.machine_steps.specs.Held.{held-fine}
 use Rattle.ledger.specs.Run.{Stores, Call, packet, answer, left, answered, freshStores, Typed}
 use Rattle.ledger.specs.Ledger.{Ledger, opening, ledger}
 use Rattle.ledger.specs.Statement.{InRole, Demand3}

@@ -33,8 +33,8 @@ use Rattle.machine.specs.Receive.{initAt, chunkAt, doneAt}
 use Rattle.machine.specs.Packet.{Packet, kind, isKind, frameBytes, packetRoom, tooShort, doneRow, kindRow, recvStep, sendStep}
 use Rattle.machine.specs.Samples.{id, frame, init, chunk, address}
 use Rattle.machine.specs.WorkedLaws.{done, survey, arriving, old, new, piece0, piece1}
-use Rattle.laws.specs.Fields.{bytes-of, bytes-append, bytes-pad}
-use Rattle.laws.specs.Fresh.{fresh-valid}
+use Rattle.machine_laws.specs.Fields.{bytes-of, bytes-append, bytes-pad}
+use Rattle.machine_laws.specs.Fresh.{fresh-valid}
 use Rattle.ledger.specs.Run.{Call, packet, answered, freshStores}
 use Rattle.ledger.specs.PacketsLaws.{number, numbers, Full, packets-answer}
 

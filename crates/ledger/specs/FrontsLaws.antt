@@ -11,7 +11,7 @@ use Rattle.machine.specs.Packet.{Packet, kind, kindRow, packetFront, packetRow,
 use Rattle.machine.specs.Push.{Push, pushRow}
 use Rattle.machine.specs.Wake.{wakeRow}
 use Rattle.machine.specs.Take.{oldestRow, takeRow, takeOf}
-use Rattle.steps.specs.Refusals.{Clear, refusal-front}
+use Rattle.machine_steps.specs.Refusals.{Clear, refusal-front}
 use Rattle.ledger.specs.RefusedLaws.{packet-number, take-number}
 
 -- where each test of its front holds, a row answers what stands behind the front answers

@@ -25,15 +25,15 @@ use Rattle.machine.specs.Packet.{Packet, kind, frameBytes, recvStep, sendStep, 
 use Rattle.machine.specs.Push.{pushRow}
 use Rattle.machine.specs.Wake.{wakeRow, wakeOf}
 use Rattle.machine.specs.Take.{takeRow, takeOf}
-use Rattle.laws.specs.ValidSound.{valid-sound}
-use Rattle.laws.specs.Fresh.{fresh-valid, setup-valid}
-use Rattle.steps.specs.Unique.{Unique, unique-left}
-use Rattle.steps.specs.Keys.{distinct-unique}
-use Rattle.steps.specs.Take.{take-valid}
-use Rattle.steps.specs.Valid.{recv-valid}
-use Rattle.steps.specs.SendValid.{send-valid}
-use Rattle.steps.specs.Push.{push-valid}
-use Rattle.steps.specs.Wake.{wake-valid}
+use Rattle.machine_laws.specs.ValidSound.{valid-sound}
+use Rattle.machine_laws.specs.Fresh.{fresh-valid, setup-valid}
+use Rattle.machine_steps.specs.Unique.{Unique, unique-left}
+use Rattle.machine_steps.specs.Keys.{distinct-unique}
+use Rattle.machine_steps.specs.Take.{take-valid}
+use Rattle.machine_steps.specs.Valid.{recv-valid}
+use Rattle.machine_steps.specs.SendValid.{send-valid}
+use Rattle.machine_steps.specs.Push.{push-valid}
+use Rattle.machine_steps.specs.Wake.{wake-valid}
 use Rattle.ledger.specs.Run.{receive, send, Stores, Call, setup, packet, push, wake, report, takeWhole, answer, after, left, answered, freshStores, Typed}
 use Rattle.ledger.specs.Ledger.{Book, Ledger, noPages, opening, enter, ledger}
 use Rattle.ledger.specs.FrontsLaws.{packet-clear, push-sound, wake-sound, take-clear}

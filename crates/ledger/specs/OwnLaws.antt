@@ -13,7 +13,7 @@ use Rattle.packet.specs.declared.header.Kind.{Kind}
 use Rattle.packet.specs.declared.header.Kind.the-variants.{Init, Chunk, Done, Read, Aborted, AckInit, AckChunk, AckDone, Nothing}
 use Rattle.machine.specs.Values.{Key, sameKey}
 use Rattle.machine.specs.Packet.{Packet, kind, asked}
-use Rattle.laws.specs.Keys.{key-eq, key-refl}
+use Rattle.machine_laws.specs.Keys.{key-eq, key-refl}
 use Rattle.ledger.specs.Run.{receive, send, Call, setup, packet, push, wake, report, takeWhole}
 use Rattle.ledger.specs.Ledger.{Page, Book, Ledger, opening, packetIn, enter, ledger}
 use Rattle.ledger.specs.Made.{pageOf, finished, madeBy, madeFrom, made}

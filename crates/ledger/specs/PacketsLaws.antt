@@ -17,9 +17,9 @@ use Rattle.machine.specs.Refusals.{refusal}
 use Rattle.machine.specs.Typed.{TypedPacket}
 use Rattle.machine.specs.Packet.{Packet, kind, isKind, frameBytes, packetRoom, kindRow, recvStep, sendStep, packetRow}
 use Rattle.octets.specs.ListsLaws.{_&_}
-use Rattle.laws.specs.ValidSound.{valid-sound}
-use Rattle.steps.specs.Valid.{recv-valid}
-use Rattle.steps.specs.SendValid.{send-valid}
+use Rattle.machine_laws.specs.ValidSound.{valid-sound}
+use Rattle.machine_steps.specs.Valid.{recv-valid}
+use Rattle.machine_steps.specs.SendValid.{send-valid}
 use Rattle.ledger.specs.Run.{Stores, Call, packet, answer, after, answered}
 use Rattle.ledger.specs.RefusedLaws.{packet-number, refused-stays}
 use Rattle.ledger.specs.FrontsLaws.{packet-answer}

@@ -8,8 +8,8 @@ use Rattle.machine.specs.Values.{Store}
 use Rattle.machine.specs.Layout.{encode, decode}
 use Rattle.machine.specs.Sound.{headTests, soundTests, sound}
 use Rattle.machine.specs.Valid.{Valid}
-use Rattle.laws.specs.Tests.{every-true}
-use Rattle.laws.specs.ValidSound.{valid-sound}
+use Rattle.machine_laws.specs.Tests.{every-true}
+use Rattle.machine_laws.specs.ValidSound.{valid-sound}
 
 pub record Stored (role : ℕ) (b : List ℕ) : Type 0 where
   pub valid : Valid role (decode b)

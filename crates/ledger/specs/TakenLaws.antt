@@ -21,11 +21,11 @@ use Rattle.machine.specs.Valid.{RecSized}
 use Rattle.machine.specs.Refusals.{refusal}
 use Rattle.machine.specs.Pieces.{joined}
 use Rattle.machine.specs.Take.{takeRoom, takenRoom, oldestRow, takenBytes}
-use Rattle.laws.specs.Fine.{fits-fine}
-use Rattle.laws.specs.Rows.{Held}
-use Rattle.laws.specs.RecRow.{rec-back, rec-length}
-use Rattle.laws.specs.StoreRows.{held-whole}
-use Rattle.laws.specs.Rep.{Rep, encode-rep}
+use Rattle.machine_laws.specs.Fine.{fits-fine}
+use Rattle.machine_laws.specs.Rows.{Held}
+use Rattle.machine_laws.specs.RecRow.{rec-back, rec-length}
+use Rattle.machine_laws.specs.StoreRows.{held-whole}
+use Rattle.machine_laws.specs.Rep.{Rep, encode-rep}
 use Rattle.ledger.specs.Ledger.{Page}
 use Rattle.ledger.specs.Statement.{Given}
 use Rattle.ledger.specs.StoredLaws.{Stored}

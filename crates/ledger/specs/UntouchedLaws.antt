@@ -14,7 +14,7 @@ use Rattle.machine.specs.Values.{Store}
 use Rattle.machine.specs.Layout.{encode, decode}
 use Rattle.machine.specs.Refusals.{refusal}
 use Rattle.machine.specs.Packet.{Packet, kind, recvStep, sendStep, packetRow, packetAnswer}
-use Rattle.laws.specs.SoundValid.{sound-valid}
+use Rattle.machine_laws.specs.SoundValid.{sound-valid}
 use Rattle.ledger.specs.Only.{toOffice}
 use Rattle.ledger.specs.FrontsLaws.{packet-clear}
 

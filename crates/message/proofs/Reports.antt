@@ -11,7 +11,7 @@ use Rattle.machine.specs.Sound.{sound}
 use Rattle.machine.specs.Receive.{found}
 use Rattle.machine.specs.Refusals.{refusal, heldRow}
 use Rattle.machine.specs.Report.{reportRoom, reportRow, reportAt, reportOf}
-use Rattle.store.specs.RefuseLaws.{next, stop}
+use Rattle.records.specs.RefuseLaws.{next, stop}
 
 module _ (b id out : List ℕ) where
   pub unsound : (m k w : ℕ) → sound roleSend b ≡ false → m ≡ 25 → k ≡ 0 → w ≡ 0 → record { number = m; run = k; wake = w; out = out } ≡ reportOf b id out

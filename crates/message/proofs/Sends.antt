@@ -17,7 +17,7 @@ use Rattle.machine.specs.Refusals.{Refusals, refusal, heldRow}
 use Rattle.machine.specs.Outcomes.{sendAt}
 use Rattle.machine.specs.Push.{Push, pushed, pushTests, pushRow, pushLabel, pushAnswer}
 use Rattle.machine.specs.Wake.{sendWake, deadlineWake, wakeRoom, wakeRow, wakeStep, wakeRun, wakeOf}
-use Rattle.store.specs.RefuseLaws.{next, stop}
+use Rattle.records.specs.RefuseLaws.{next, stop}
 
 -- with a row whose first test is the store's
 module _ (b out : List ℕ) (row : Refusals) (s : Store) (run : List ℕ) where

@@ -18,9 +18,9 @@ use Rattle.machine.specs.Codes.{roleReceive, roleSend}
 use Rattle.machine.specs.Layout.{encode, decode}
 use Rattle.machine.specs.Refusals.{refusal}
 use Rattle.machine.specs.Packet.{Packet, kindRow, recvStep, sendStep, frameBytes, replyBytes}
-use Rattle.laws.specs.SoundValid.{sound-valid}
-use Rattle.store.specs.HeldAt.{Receives, Sends}
-use Rattle.store.specs.Step.{stepped}
+use Rattle.machine_laws.specs.SoundValid.{sound-valid}
+use Rattle.records.specs.HeldAt.{Receives, Sends}
+use Rattle.records.specs.Step.{stepped}
 use Rattle.message.specs.Both.{bothOf, replyOut}
 
 -- both stores, as a packet finds them
@@ -42,13 +42,15 @@ module _ (p : Packet) {b c : List ℕ} (h : Stores b c) (k : Kind) {kind : Kind}
   pub receives : sendStep k p (decode c) ≡ decode c → record { number = n; store = l } ≡ stepped (number k p b c) (recvStep k p (decode b)) b
       → record { number = n; recv = l; send = c } ≡ bothOf kind p b c
   receives e w =
-      (λ i. record { number = w i .number; recv = w i .store; send = same (number k p b c) (encode (sendStep k p (decode c))) c (ap encode e ∙ sound-valid roleSend c (h .send-bytes) (h .send) .1) i })
+      let kept : encode (sendStep k p (decode c)) ≡ c = ap encode e ∙ sound-valid roleSend c (h .send-bytes) (h .send) .1 in
+      (λ i. record { number = w i .number; recv = w i .store; send = same (number k p b c) (encode (sendStep k p (decode c))) c kept i })
       ∙ ap (λ (j : Kind). bothOf j p b c) (sym told)
 
   pub sends : recvStep k p (decode b) ≡ decode b → record { number = n; store = l } ≡ stepped (number k p b c) (sendStep k p (decode c)) c
       → record { number = n; recv = b; send = l } ≡ bothOf kind p b c
   sends e w =
-      (λ i. record { number = w i .number; recv = same (number k p b c) (encode (recvStep k p (decode b))) b (ap encode e ∙ sound-valid roleReceive b (h .recv-bytes) (h .recv) .1) i; send = w i .store })
+      let kept : encode (recvStep k p (decode b)) ≡ b = ap encode e ∙ sound-valid roleReceive b (h .recv-bytes) (h .recv) .1 in
+      (λ i. record { number = w i .number; recv = same (number k p b c) (encode (recvStep k p (decode b))) b kept i; send = w i .store })
       ∙ ap (λ (j : Kind). bothOf j p b c) (sym told)
 
 -- ---- the reply

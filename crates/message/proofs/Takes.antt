@@ -8,7 +8,7 @@ use Rattle.machine.specs.Layout.{decode}
 use Rattle.machine.specs.Sound.{sound}
 use Rattle.machine.specs.Refusals.{refusal}
 use Rattle.machine.specs.Take.{oldestRow, takeRow, takeAt, takeOf}
-use Rattle.store.specs.RefuseLaws.{next, stop}
+use Rattle.records.specs.RefuseLaws.{next, stop}
 
 module _ (b taken out : List ℕ) where
   pub unsound : (m k w : ℕ) → sound roleReceive b ≡ false → m ≡ 25 → k ≡ 0 → w ≡ 0 → record { number = m; run = k; wake = w; recv = b; taken = taken; out = out } ≡ takeOf b taken out

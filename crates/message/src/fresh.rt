@@ -1,6 +1,7 @@
 // Setup: a store becomes fresh.
 
-use answer::Answer;
+use rows::answer;
+use rows::answer::Answer;
 ghost use mathlib.Core.Path.{_≡_};
 ghost use Rattle.machine.specs.Setup.{setupOf};
 

@@ -2,10 +2,11 @@
 
 use crate::step;
 use crate::step::Route;
-use answer::Answer;
 use packet::header;
 use packet::reader;
 use packet::run;
+use rows::answer;
+use rows::answer::Answer;
 use rows::head;
 ghost use mathlib.Core.Path.{_≡_};
 ghost use Rattle.machine.specs.Packet.{packetOf};

@@ -1,7 +1,8 @@
 // What leaves: messages that are pushed, woken and reported on.
 
-use answer::Answer;
 use packet::label::labelled;
+use rows::answer;
+use rows::answer::Answer;
 use rows::head;
 ghost use mathlib.Core.Path.{_≡_};
 ghost use Rattle.machine.specs.Push.{pushOf};

@@ -8,6 +8,7 @@ use packet::init::MessageInit;
 use packet::label::labelled;
 use packet::reader;
 use packet::run;
+use rows::answer;
 use rows::record;
 ghost use mathlib.Core.Path.{_≡_};
 ghost use mathlib.Core.Bool.{true};
@@ -16,7 +17,7 @@ ghost use lib.ListN.{length};
 ghost use Rattle.octets.specs.Octets.{put};
 ghost use Rattle.packet.specs.declared.header.Kind.{Kind};
 ghost use Rattle.machine.specs.Packet.{frameBytes, packetRoom, isKind, kindWake, arrival, replyBytes};
-ghost use Rattle.store.specs.HeldAt.{Receives, Sends};
+ghost use Rattle.records.specs.HeldAt.{Receives, Sends};
 ghost use Rattle.message.specs.Both.{bothOf, replyOut};
 
 // The bytes of the frame that each reply keeps: up to an init's topic, up to a chunk's piece, all of a done.

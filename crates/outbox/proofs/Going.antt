@@ -13,7 +13,7 @@ use Rattle.machine.specs.Layout.{idAt, firstCellAt, recOff, cellPlace, cellOff,
 use Rattle.machine.specs.Send.{withCells, changeAt, change, due, chunkOut, dueOut}
 use Rattle.machine.specs.Typed.{TypedClock}
 use Rattle.machine.specs.Wake.{sendWakeRoom}
-use Rattle.store.specs.HeldAt.{placeAt, recIn, keyIn}
+use Rattle.records.specs.HeldAt.{placeAt, recIn, keyIn}
 use Rattle.outbox.specs.Leaves.{Here}
 use Rattle.outbox.specs.Sending.{namesWidth, namesIn, pieceOut, stampedIn, Turn, Sends, Wakes, stampedDue, dueOf}
 use Rattle.outbox.specs.HereLaws.{first-is}

@@ -9,7 +9,7 @@ use Rattle.blake3.specs.Laws.{length-blake3}
 use Rattle.machine.specs.Values.{Rec}
 use Rattle.machine.specs.Layout.{labelOf, recOf}
 use Rattle.machine.specs.Send.{sentBy, initOut, doneOut, abortedOut}
-use Rattle.store.specs.HeldAt.{rowIn, recIn}
+use Rattle.records.specs.HeldAt.{rowIn, recIn}
 use Rattle.outbox.specs.Leaves.{Here}
 
 module _ {b : List ℕ} {link : ℕ} (h : Here b link) where

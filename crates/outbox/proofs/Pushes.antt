@@ -21,10 +21,10 @@ use Rattle.machine.specs.Layout.{freeCellsAt, numberLimit, decode}
 use Rattle.machine.specs.Refusals.{refusal}
 use Rattle.machine.specs.Send.{initOut}
 use Rattle.machine.specs.Push.{Push, pushRoom, pushLabel, pushTests}
-use Rattle.steps.specs.Find.{is-none}
-use Rattle.steps.specs.Refusals.{Clear, refusal-clear}
-use Rattle.store.specs.HeldAt.{Sends}
-use Rattle.store.specs.Opening.{newLabel}
+use Rattle.machine_steps.specs.Find.{is-none}
+use Rattle.machine_steps.specs.Refusals.{Clear, refusal-clear}
+use Rattle.records.specs.HeldAt.{Sends}
+use Rattle.records.specs.Opening.{newLabel}
 use Rattle.outbox.specs.Pushing.{Pushable, firstPlace, pushes}
 
 -- a number of 64 bits fits its field

@@ -12,7 +12,7 @@ use Rattle.machine.specs.Codes.{pieceStarted, pieceSent, pieceAcked}
 use Rattle.machine.specs.Values.{Label, Cell}
 use Rattle.machine.specs.Counting.{occurs}
 use Rattle.machine.specs.Send.{due, stamped, dueOut, allAcked}
-use Rattle.cells.specs.InPlace.{pieceState}
+use Rattle.pieces.specs.InPlace.{pieceState}
 
 -- how many are acknowledged
 abbrev acked : List Cell → ℕ

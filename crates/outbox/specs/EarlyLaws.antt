@@ -13,8 +13,8 @@ use Rattle.machine.specs.Values.{Cell}
 use Rattle.machine.specs.Sound.{rising}
 use Rattle.machine.specs.Send.{marked, due, stamped}
 use Rattle.machine.specs.Typed.{TypedClock}
-use Rattle.steps.specs.Marks.{Marks, marks-if}
-use Rattle.steps.specs.Pieces.{rising-parts}
+use Rattle.machine_steps.specs.Marks.{Marks, marks-if}
+use Rattle.machine_steps.specs.Pieces.{rising-parts}
 
 -- a due piece is stamped if its index is below i
 abbrev pub early : ℕ → ℕ → Cell → Cell

@@ -11,13 +11,13 @@ use Rattle.machine.specs.Codes.{roleSend, kindLeaving}
 use Rattle.machine.specs.Chains.{first}
 use Rattle.machine.specs.Layout.{heldAt, firstCellAt, recOff, recOf, cellPlace, decode}
 use Rattle.machine.specs.Receive.{found}
-use Rattle.laws.specs.Fine.{fine-complete}
-use Rattle.links.specs.Links.{RecLink}
-use Rattle.links.specs.InRange.{links}
-use Rattle.store.specs.SoughtLaws.{seek-link}
-use Rattle.store.specs.HeldAt.{placeAt, recIn, keyIn, HeldAt}
-use Rattle.store.specs.MetLaws.{valid, rep, held-here, here-fine, here-sized, here-within, here-split, here-reached}
-use Rattle.cells.specs.HeldLaws.{first-piece}
+use Rattle.machine_laws.specs.Fine.{fine-complete}
+use Rattle.machine_writes.specs.Links.{RecLink}
+use Rattle.machine_writes.specs.InRange.{links}
+use Rattle.records.specs.SoughtLaws.{seek-link}
+use Rattle.records.specs.HeldAt.{placeAt, recIn, keyIn, HeldAt}
+use Rattle.records.specs.MetLaws.{valid, rep, held-here, here-fine, here-sized, here-within, here-split, here-reached}
+use Rattle.pieces.specs.HeldLaws.{first-piece}
 use Rattle.outbox.specs.Leaves.{Here}
 
 pub here : {b : List ℕ} {link : ℕ} → Bytes b → HeldAt roleSend b link → Here b link

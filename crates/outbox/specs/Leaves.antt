@@ -9,8 +9,8 @@ use Rattle.machine.specs.Codes.{roleSend}
 use Rattle.machine.specs.Layout.{firstCellAt, countAt, recOff}
 use Rattle.machine.specs.Sound.{sizes}
 use Rattle.machine.specs.Valid.{LabelSized}
-use Rattle.links.specs.Links.{Links}
-use Rattle.store.specs.HeldAt.{placeAt, recIn, HeldAt, Reached}
+use Rattle.machine_writes.specs.Links.{Links}
+use Rattle.records.specs.HeldAt.{placeAt, recIn, HeldAt, Reached}
 
 -- the link at byte `link` and the row that it leads to are inside, and what the record there is
 pub record Here (b : List ℕ) (link : ℕ) : Type 0 where

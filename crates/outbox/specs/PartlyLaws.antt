@@ -20,21 +20,21 @@ use Rattle.machine.specs.Valid.{CellSized, Valid}
 use Rattle.machine.specs.Receive.{recKey}
 use Rattle.machine.specs.Send.{withHeld, withCells, changeAt, change, due, stamped}
 use Rattle.machine.specs.Typed.{TypedClock}
-use Rattle.laws.specs.CellRow.{cell-back}
-use Rattle.laws.specs.Rep.{Rep, rep-encode, encode-rep}
-use Rattle.laws.specs.Walks.{head-byte}
-use Rattle.laws.specs.SoundValid.{sound-valid}
-use Rattle.links.specs.Links.{Links}
-use Rattle.links.specs.InRange.{valid-links}
-use Rattle.links.specs.Split.{Split}
-use Rattle.links.specs.Swap.{heldStore}
-use Rattle.steps.specs.Remarked.{remarked-valid, held-small}
-use Rattle.store.specs.HeldAt.{recIn, keyIn, HeldAt}
-use Rattle.store.specs.MetLaws.{valid, rep, held-here, here-key, here-fine, here-sized, here-split}
-use Rattle.cells.specs.InPlace.{remarked}
-use Rattle.cells.specs.SpotLaws.{row-next}
-use Rattle.cells.specs.HeldLaws.{piece-in, piece-row}
-use Rattle.cells.specs.MarkLaws.{stamp-rep}
+use Rattle.machine_laws.specs.CellRow.{cell-back}
+use Rattle.machine_laws.specs.Rep.{Rep, rep-encode, encode-rep}
+use Rattle.machine_laws.specs.Walks.{head-byte}
+use Rattle.machine_laws.specs.SoundValid.{sound-valid}
+use Rattle.machine_writes.specs.Links.{Links}
+use Rattle.machine_writes.specs.InRange.{valid-links}
+use Rattle.machine_writes.specs.Split.{Split}
+use Rattle.machine_writes.specs.Swap.{heldStore}
+use Rattle.machine_steps.specs.Remarked.{remarked-valid, held-small}
+use Rattle.records.specs.HeldAt.{recIn, keyIn, HeldAt}
+use Rattle.records.specs.MetLaws.{valid, rep, held-here, here-key, here-fine, here-sized, here-split}
+use Rattle.pieces.specs.InPlace.{remarked}
+use Rattle.pieces.specs.SpotLaws.{row-next}
+use Rattle.pieces.specs.HeldLaws.{piece-in, piece-row}
+use Rattle.pieces.specs.MarkLaws.{stamp-rep}
 use Rattle.outbox.specs.Leaves.{Here}
 use Rattle.outbox.specs.Sending.{stampedIn, stampedDue}
 use Rattle.outbox.specs.EarlyLaws.{early, marks-early, stamping}

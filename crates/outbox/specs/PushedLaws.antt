@@ -16,22 +16,22 @@ use Rattle.machine.specs.Layout.{freeAt, heldAt, freeCellsAt, numberLimit, recO
 use Rattle.machine.specs.Valid.{RecSized, Valid}
 use Rattle.machine.specs.Pieces.{cutPieces, rest}
 use Rattle.machine.specs.Send.{pushStep}
-use Rattle.laws.specs.Rows.{Held}
-use Rattle.laws.specs.StoreRows.{held-free}
-use Rattle.laws.specs.FreeRow.{free-map}
-use Rattle.laws.specs.Rep.{Rep}
-use Rattle.laws.specs.Walks.{head-byte}
-use Rattle.steps.specs.Cut.{places-cut}
-use Rattle.steps.specs.Push.{leaving, leaving-sized, pushed-valid}
-use Rattle.links.specs.InRange.{links}
-use Rattle.links.specs.Byte.{first-byte}
-use Rattle.links.specs.Cut.{cutBytes, cut-ready}
-use Rattle.links.specs.Open.{Ready, withFreeCells}
-use Rattle.links.specs.Encodes
-use Rattle.store.specs.MetLaws.{valid, rep}
-use Rattle.store.specs.EstablishedLaws.{free-is}
-use Rattle.store.specs.Opening.{Openable, newRec, openedRow, openedWith}
-use Rattle.store.specs.OpenedLaws.{fine-fields, open-chain}
+use Rattle.machine_laws.specs.Rows.{Held}
+use Rattle.machine_laws.specs.StoreRows.{held-free}
+use Rattle.machine_laws.specs.FreeRow.{free-map}
+use Rattle.machine_laws.specs.Rep.{Rep}
+use Rattle.machine_laws.specs.Walks.{head-byte}
+use Rattle.machine_steps.specs.Cut.{places-cut}
+use Rattle.machine_steps.specs.Push.{leaving, leaving-sized, pushed-valid}
+use Rattle.machine_writes.specs.InRange.{links}
+use Rattle.machine_writes.specs.Byte.{first-byte}
+use Rattle.machine_writes.specs.Cut.{cutBytes, cut-ready}
+use Rattle.machine_writes.specs.Open.{Ready, withFreeCells}
+use Rattle.machine_writes.specs.Encodes
+use Rattle.records.specs.MetLaws.{valid, rep}
+use Rattle.records.specs.EstablishedLaws.{free-is}
+use Rattle.records.specs.Opening.{Openable, newRec, openedRow, openedWith}
+use Rattle.records.specs.OpenedLaws.{fine-fields, open-chain}
 use Rattle.outbox.specs.Pushing.{Pushable, firstPlace}
 
 -- the pieces of the bytes, the cells that stay free, and the bytes of the store with the pieces cut

@@ -15,8 +15,8 @@ use Rattle.machine.specs.Sound.{sound}
 use Rattle.machine.specs.Receive.{found}
 use Rattle.machine.specs.Send.{pushStep}
 use Rattle.machine.specs.Push.{Push, pushLabel, pushed}
-use Rattle.store.specs.HeldAt.{Sends}
-use Rattle.steps.specs.Init.{LabelFine}
+use Rattle.records.specs.HeldAt.{Sends}
+use Rattle.machine_steps.specs.Init.{LabelFine}
 
 -- what the row leaves: a label that a record can have, an id that is not held, and a record and the cells that the pieces need free
 pub record Pushable (b : List ℕ) (h : Label) (bytes : List ℕ) : Type 0 where

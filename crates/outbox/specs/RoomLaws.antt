@@ -15,10 +15,10 @@ use Rattle.machine.specs.Sound.{sizes}
 use Rattle.machine.specs.Valid.{LabelSized}
 use Rattle.machine.specs.Send.{due, chunkOut, dueOut}
 use Rattle.machine.specs.Wake.{sendWakeRoom}
-use Rattle.laws.specs.Fine.{Fine}
-use Rattle.steps.specs.Leaving.{leaving-few}
-use Rattle.store.specs.HeldAt.{recIn}
-use Rattle.store.specs.MetLaws.{here-fine}
+use Rattle.machine_laws.specs.Fine.{Fine}
+use Rattle.machine_steps.specs.Leaving.{leaving-few}
+use Rattle.records.specs.HeldAt.{recIn}
+use Rattle.records.specs.MetLaws.{here-fine}
 use Rattle.outbox.specs.Leaves.{Here}
 
 sizes-append : (l m : List Cell) → sizes (l ++ m) ≡ sizes l + sizes m

@@ -11,8 +11,8 @@ use Rattle.machine.specs.Codes.{pieceSent}
 use Rattle.machine.specs.Values.{Cell, Rec, Store}
 use Rattle.machine.specs.Layout.{countAt, idAt, idWidth, addressWidth, recOff, readCell, encode}
 use Rattle.machine.specs.Send.{withCells, due, stamped, dueOut, unsettled, abortedOut}
-use Rattle.links.specs.Links.{Links}
-use Rattle.cells.specs.InPlace.{remarked}
+use Rattle.machine_writes.specs.Links.{Links}
+use Rattle.pieces.specs.InPlace.{remarked}
 
 -- a record's id, source and destination, as they stand in its row one behind the other
 abbrev pub namesWidth : ℕ

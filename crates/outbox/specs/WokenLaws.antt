@@ -12,7 +12,7 @@ use Rattle.machine.specs.Values.{Cell, Rec, Store}
 use Rattle.machine.specs.Layout.{sendingOf, recOf, encode, decode}
 use Rattle.machine.specs.Receive.{replaced}
 use Rattle.machine.specs.Send.{withHeld, withCells, changeAt, change, allAcked, initOut, doneOut, progressOut, wakeOut, woken}
-use Rattle.store.specs.HeldAt.{rowIn, recIn, keyIn}
+use Rattle.records.specs.HeldAt.{rowIn, recIn, keyIn}
 use Rattle.outbox.specs.Leaves.{Here}
 use Rattle.outbox.specs.Sending.{Starts, Wakes, stampedDue, dueOf}
 use Rattle.outbox.specs.AckedLaws.{acked-out, acked-kept}

@@ -1,8 +1,9 @@
 // Acknowledgements and the read: the office tells how far it is. Document 01: "Ack init 0 to 1, ack done 1 to
 // 2, read 2 to 3; ack chunk needs 1 and marks its piece Acked. Any other state is 18."
+use records::field;
+use records::find;
+use rows::answer;
 use rows::record::IN_PROGRESS;
-use store::field;
-use store::find;
 ghost use mathlib.Core.Path.{_≡_};
 ghost use Prim.Native.Nat.{_≤_};
 ghost use Rattle.machine.specs.Codes.{stateAborted};
@@ -11,8 +12,8 @@ ghost use Rattle.machine.specs.Receive.{found};
 ghost use Rattle.machine.specs.Refusals.{refusal};
 ghost use Rattle.machine.specs.Send.{change, withState, ackPiece};
 ghost use Rattle.machine.specs.Packet.{stateRow, ackChunkRow};
-ghost use Rattle.store.specs.HeldAt.{Sends};
-ghost use Rattle.store.specs.Step.{stepped};
+ghost use Rattle.records.specs.HeldAt.{Sends};
+ghost use Rattle.records.specs.Step.{stepped};
 
 // Ack init, ack done and read: the number, and the store with the record in its next state.
 pub fn advance(send: &mut [u8], id: &[u8], state: u8, next: u8) -> u64
@@ -31,7 +32,7 @@ pub fn advance(send: &mut [u8], id: &[u8], state: u8, next: u8) -> u64
     if field::state(send, link) != state {
         return answer::WRONG_STATE;
     }
-    store::restate::set_state(send, link, next);
+    records::restate::set_state(send, link, next);
     answer::DONE
 }
 
@@ -52,9 +53,9 @@ pub fn ack_chunk(send: &mut [u8], id: &[u8], index: u64) -> u64
     if field::state(send, link) != IN_PROGRESS {
         return answer::WRONG_STATE;
     }
-    if index >= cells::pieces::count_pieces(send, link) {
+    if index >= pieces::held::count_pieces(send, link) {
         return answer::NO_SUCH_PIECE;
     }
-    cells::ack::ack(send, link, index);
+    pieces::ack::ack(send, link, index);
     answer::DONE
 }

@@ -2,9 +2,9 @@
 // the report.
 use packet::header;
 use packet::run;
+use records::field;
 use rows::record::IN_PROGRESS;
 use rows::record::INIT;
-use store::field;
 ghost use mathlib.Core.Path.{_≡_};
 ghost use mathlib.Core.Option.{some};
 ghost use Prim.Native.Nat.{_≤_};
@@ -14,7 +14,7 @@ ghost use Rattle.machine.specs.Codes.{roleSend};
 ghost use Rattle.machine.specs.Layout.{decode};
 ghost use Rattle.machine.specs.Send.{deadlineOut, deadlineAt};
 ghost use Rattle.machine.specs.Wake.{deadlineWakeRoom};
-ghost use Rattle.store.specs.HeldAt.{recIn, HeldAt};
+ghost use Rattle.records.specs.HeldAt.{recIn, HeldAt};
 ghost use Rattle.outbox.specs.Leaves.{Here};
 ghost use Rattle.outbox.specs.Sending.{abortedOf, Starts, Wakes};
 
@@ -59,10 +59,10 @@ pub fn deadline_wake(send: &mut [u8], link: usize, run: &mut [u8]) -> usize
         ⌜ Wakes s (deadlineOut p) (now (run .entry)) r (now (send .exit)) (now (run .exit)) ⌝ }
 {
     if is_late(send, link) {
-        store::release::drop(send, link);
+        records::release::drop(send, link);
         return 0;
     }
     let end = put_aborted(send, link, run);
-    store::restate::time_out(send, link);
+    records::restate::time_out(send, link);
     end
 }

@@ -1,14 +1,14 @@
 // The done of a record: it is sent once every piece is acknowledged, with the sum of all pieces.
 use packet::done::MessageDone;
 use packet::run;
+use records::field;
 use rows::cell::ACKED;
-use store::field;
 ghost use mathlib.Core.Path.{_≡_};
 ghost use Prim.Native.Nat.{_≤_};
 ghost use lib.ListN.{length};
 ghost use Rattle.machine.specs.Send.{allAcked, doneOut};
 ghost use Rattle.machine.specs.Wake.{sendWakeRoom};
-ghost use Rattle.store.specs.HeldAt.{recIn};
+ghost use Rattle.records.specs.HeldAt.{recIn};
 ghost use Rattle.outbox.specs.Leaves.{Here};
 ghost use Rattle.outbox.specs.Sending.{Starts};
 
@@ -18,7 +18,7 @@ pub fn all_acked(send: &[u8], link: usize) -> bool
     requires { ⌜ Here (now send) link ⌝ }
     ensures { λ r. ⌜ r ≡ allAcked (recIn (now (send .entry)) link .cells) ⌝ }
 {
-    cells::pieces::count_state(send, link, ACKED) == field::slots(send, link)
+    pieces::held::count_state(send, link, ACKED) == field::slots(send, link)
 }
 
 // The done of the record, as the run's one entry; answers where it ends. The record stays as it is: its state
@@ -29,7 +29,7 @@ pub fn put_done(send: &[u8], link: usize, run: &mut [u8]) -> usize
         let sent = doneOut (recIn (now (send .entry)) link) in
         ⌜ Starts sent (now (run .entry)) r (now (run .exit)) ⌝ }
 {
-    let sum = cells::pieces::sum_pieces(send, link);
+    let sum = pieces::held::sum_pieces(send, link);
     run::put_done(
         run,
         0,

@@ -1,16 +1,16 @@
 // The pieces of a record that are due, sent in index order.
 use crate::piece::send_piece;
 use octets::small;
+use records::field::first_cell;
 use rows::cell::STEPS;
 use rows::cell::cell_at;
-use store::field::first_cell;
 ghost use mathlib.Core.Path.{_≡_};
 ghost use Prim.Native.Nat.{_≤_};
 ghost use lib.ListN.{length};
 ghost use Rattle.machine.specs.Layout.{decode};
 ghost use Rattle.machine.specs.Send.{change};
 ghost use Rattle.machine.specs.Wake.{sendWakeRoom};
-ghost use Rattle.store.specs.HeldAt.{placeAt, recIn, keyIn};
+ghost use Rattle.records.specs.HeldAt.{placeAt, recIn, keyIn};
 ghost use Rattle.outbox.specs.Leaves.{Here};
 ghost use Rattle.outbox.specs.Sending.{namesIn, Wakes, stampedDue, dueOf};
 

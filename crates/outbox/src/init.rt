@@ -2,12 +2,12 @@
 use packet::init::MessageInit;
 use packet::label::labelled;
 use packet::run;
-use store::field;
+use records::field;
 ghost use Prim.Native.Nat.{_≤_};
 ghost use lib.ListN.{length};
 ghost use Rattle.machine.specs.Send.{initOut};
 ghost use Rattle.machine.specs.Wake.{sendWakeRoom};
-ghost use Rattle.store.specs.HeldAt.{recIn};
+ghost use Rattle.records.specs.HeldAt.{recIn};
 ghost use Rattle.outbox.specs.Leaves.{Here};
 ghost use Rattle.outbox.specs.Sending.{Starts};
 

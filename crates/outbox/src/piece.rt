@@ -2,12 +2,12 @@
 use crate::record::DESTINATION;
 use crate::record::NAMES;
 use crate::record::SOURCE;
-use cells::row::mark;
 use octets::get16;
 use octets::get64;
 use octets::wide;
 use packet::chunk::MessageChunk;
 use packet::run;
+use pieces::row::mark;
 use rows::cell::Cell;
 use rows::cell::SENT;
 use rows::cell::STARTED;
@@ -21,7 +21,7 @@ ghost use Rattle.octets.specs.Octets.{put};
 ghost use Rattle.machine.specs.Limits.{resendAfter};
 ghost use Rattle.machine.specs.Layout.{readCell};
 ghost use Rattle.machine.specs.Send.{due};
-ghost use Rattle.cells.specs.InPlace.{CellIn};
+ghost use Rattle.pieces.specs.InPlace.{CellIn};
 ghost use Rattle.outbox.specs.Sending.{chunkOf, Turn, Sends};
 
 // A piece is sent again after so many milliseconds.

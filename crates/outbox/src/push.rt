@@ -1,12 +1,13 @@
 // Push: a message starts to leave. Its data is cut by 1,300 into free cells, its record is opened, and its init is sent.
-use answer::Answer;
 use packet::init::MessageInit;
 use packet::label::Label;
 use packet::run;
+use records::find;
+use records::open::Times;
+use rows::answer;
+use rows::answer::Answer;
 use rows::head::Head;
 use rows::message;
-use store::find;
-use store::open::Times;
 ghost use mathlib.Core.Path.{_≡_};
 ghost use mathlib.Core.List.{[]};
 ghost use Prim.Native.Nat.{_<_, _≤_};
@@ -19,8 +20,8 @@ ghost use Rattle.machine.specs.Refusals.{refusal};
 ghost use Rattle.machine.specs.Send.{pushStep, initOut};
 ghost use Rattle.machine.specs.Outcomes.{sendAt};
 ghost use Rattle.machine.specs.Push.{pushLabel, pushed, pushTests};
-ghost use Rattle.store.specs.HeldAt.{Sends};
-ghost use Rattle.store.specs.Opening.{newLabel};
+ghost use Rattle.records.specs.HeldAt.{Sends};
+ghost use Rattle.records.specs.Opening.{newLabel};
 ghost use Rattle.outbox.specs.Pushing.{Pushable, firstPlace, pushes, pushedInto};
 
 // The most bytes of a topic.
@@ -37,7 +38,7 @@ fn has_cells(send: &[u8], size: usize) -> bool
     requires { ⌜ Sends (now send) × (size ≤ longest) ⌝ }
     ensures { λ r. ⌜ r ≡ leb (slotsOf size) (length (decode (now (send .entry)) .freeCells)) ⌝ }
 {
-    message::slots(size as u64) <= cells::walk::count_free(send)
+    message::slots(size as u64) <= pieces::walk::count_free(send)
 }
 
 // Rows 2, 21, 6, 24, 22, 7 and 12: the refusal of a push with room for its run.
@@ -100,8 +101,8 @@ fn hold(send: &mut [u8], label: Label, topic: &[u8], bytes: &[u8], times: Times)
         ⌜ now (send .exit) ≡ encode (pushStep h (times .created) (times .end) (now (bytes .entry)) s) ⌝ }
 {
     let cell = first_place(send, bytes.len());
-    cells::cut::cut(send, bytes);
-    store::open::open_leaving(send, cell, label, topic, times);
+    pieces::cut::cut(send, bytes);
+    records::open::open_leaving(send, cell, label, topic, times);
 }
 
 // The message starts to leave: the store with its record, and its init in the run.

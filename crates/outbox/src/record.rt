@@ -3,7 +3,7 @@ use octets::copy_in;
 use rows::record::Record;
 ghost use mathlib.Core.Path.{_≡_};
 ghost use Prim.Native.Nat.{_+_};
-ghost use Rattle.store.specs.HeldAt.{placeAt};
+ghost use Rattle.records.specs.HeldAt.{placeAt};
 ghost use Rattle.outbox.specs.Leaves.{Here};
 ghost use Rattle.outbox.specs.Sending.{namesIn};
 
@@ -20,7 +20,7 @@ pub fn names_at(send: &[u8], link: usize) -> [u8; NAMES]
     requires { ⌜ Here (now send) link ⌝ }
     ensures { λ r. let b = now (send .entry) in ⌜ r ≡ namesIn b (placeAt b link) ⌝ }
 {
-    let row = store::place::row_at(send, link);
+    let row = records::place::row_at(send, link);
     let start = row + Record::ID;
     let end = row + Record::LENGTH;
     let mut names = [0u8; NAMES];

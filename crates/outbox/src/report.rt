@@ -1,13 +1,14 @@
 // The report on a message that leaves. Document 01, "Report, into its buffer": destination (16), state (1),
 // counts of Started, Sent and Acked (1 each), created and end in whole seconds (8 each), length (8).
-use answer::Answer;
 use octets::copy_in;
 use octets::put64;
+use records::field;
+use rows::answer;
+use rows::answer::Answer;
 use rows::cell::ACKED;
 use rows::cell::SENT;
 use rows::cell::STARTED;
 use rows::record::IN_PROGRESS;
-use store::field;
 ghost use mathlib.Core.Path.{_≡_};
 ghost use mathlib.Core.Option.{some};
 ghost use Prim.Native.Nat.{_≤_};
@@ -17,7 +18,7 @@ ghost use Rattle.machine.specs.Layout.{decode};
 ghost use Rattle.machine.specs.Receive.{found};
 ghost use Rattle.machine.specs.Refusals.{refusal};
 ghost use Rattle.machine.specs.Report.{reportRoom, counted, reported, reportAt};
-ghost use Rattle.store.specs.HeldAt.{recIn, Sends};
+ghost use Rattle.records.specs.HeldAt.{recIn, Sends};
 ghost use Rattle.outbox.specs.Leaves.{Here};
 ghost use Rattle.outbox.specs.Rows.{reportTests};
 
@@ -44,7 +45,7 @@ fn counted(send: &[u8], link: usize, state: u8) -> u8
     if field::state(send, link) != IN_PROGRESS {
         return 0;
     }
-    cells::pieces::count_state(send, link, state) as u8
+    pieces::held::count_state(send, link, state) as u8
 }
 
 // The report on the record, at the start of the buffer.
@@ -79,7 +80,7 @@ pub fn report(send: &[u8], id: &[u8], out: &mut [u8]) -> Answer
     if out.len() < ROOM {
         return answer::refuse(answer::SHORT_OUTPUT);
     }
-    let link = store::find::find_held(send, id);
+    let link = records::find::find_held(send, id);
     if send[link] == 0 {
         return answer::refuse(answer::UNKNOWN_ID);
     }

@@ -5,12 +5,13 @@ use crate::done::put_done;
 use crate::due::send_due;
 use crate::init::put_init;
 use crate::record::names_at;
-use answer::Answer;
 use packet::header;
 use packet::run;
+use records::field;
+use rows::answer;
+use rows::answer::Answer;
 use rows::record::IN_PROGRESS;
 use rows::record::INIT;
-use store::field;
 ghost use mathlib.Core.Path.{_≡_};
 ghost use mathlib.Core.Bool.{_||_};
 ghost use mathlib.Core.Option.{some};
@@ -24,7 +25,7 @@ ghost use Rattle.machine.specs.Refusals.{refusal};
 ghost use Rattle.machine.specs.Send.{change, progressOut, wakeOut, woken};
 ghost use Rattle.machine.specs.Outcomes.{sendAt};
 ghost use Rattle.machine.specs.Wake.{sendWake, deadlineWake, sendWakeRoom, wakeRoom, wakeRun, wakeStep};
-ghost use Rattle.store.specs.HeldAt.{recIn, keyIn, HeldAt, Sends};
+ghost use Rattle.records.specs.HeldAt.{recIn, keyIn, HeldAt, Sends};
 ghost use Rattle.outbox.specs.Leaves.{Here};
 ghost use Rattle.outbox.specs.Rows.{wakeTests};
 ghost use Rattle.outbox.specs.Sending.{Wakes, stampedDue};
@@ -135,7 +136,7 @@ pub fn wake(send: &mut [u8], kind: u64, id: &[u8], clock: u64, run: &mut [u8]) -
     if run.len() < room(kind) {
         return answer::refuse(answer::SHORT_OUTPUT);
     }
-    let link = store::find::find_held(send, id);
+    let link = records::find::find_held(send, id);
     if send[link] == 0 {
         return answer::refuse(answer::UNKNOWN_ID);
     }

@@ -1,7 +1,8 @@
 // The calls by the C convention, for a host in any language; include/socketlemon.h declares them. A slice is
 // a pointer and a length. Each export is one call and carries its whole contract.
 
-use answer::Answer;
+use rows::answer;
+use rows::answer::Answer;
 ghost use mathlib.Core.Path.{_≡_};
 ghost use Rattle.address.specs.Address.{addressOf};
 ghost use Rattle.machine.specs.Setup.{setupOf};

@@ -21,9 +21,9 @@ use Rattle.machine.specs.Layout.{totalAt, numberWidth, recAt, cellAt, numAt, ce
 use Rattle.machine.specs.Sound.{rising, sizes, isCut}
 use Rattle.octets.specs.Octets.{part}
 use Rattle.packet.specs.Frame.{largestPiece}
-use Rattle.laws.specs.Tests.{all-parts}
-use Rattle.laws.specs.Counting.{inside-is}
-use Rattle.laws.specs.Marks.{Walked, scan, pick, scan-append}
+use Rattle.machine_laws.specs.Tests.{all-parts}
+use Rattle.machine_laws.specs.Counting.{inside-is}
+use Rattle.machine_laws.specs.Marks.{Walked, scan, pick, scan-append}
 use Rattle.rows.specs.declared.Holds.the-variants.{Piece}
 use Rattle.rows.specs.Asked.{pieceFits}
 use Rattle.soundness.specs.declared.chain.Table.{Table}

@@ -22,10 +22,10 @@ use Rattle.machine.specs.Counting.{inside, rise}
 use Rattle.machine.specs.Layout.{freePlace, freeRow, recRows, cellRows, encode}
 use Rattle.machine.specs.Sound.{fresh, room, setupCells}
 use Rattle.machine.specs.Setup.{setupOf}
-use Rattle.laws.specs.Fresh.{setup-length}
-use Rattle.laws.specs.Counting.{inside-is, is-inside}
-use Rattle.laws.specs.Rows.{table-same, table-length}
-use Rattle.laws.specs.FreeRow.{free-length}
+use Rattle.machine_laws.specs.Fresh.{setup-length}
+use Rattle.machine_laws.specs.Counting.{inside-is, is-inside}
+use Rattle.machine_laws.specs.Rows.{table-same, table-length}
+use Rattle.machine_laws.specs.FreeRow.{free-length}
 use Rattle.soundness.specs.Rising.{freeLink, freeTable}
 
 -- ---- how many cells

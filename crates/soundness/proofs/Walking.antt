@@ -18,9 +18,9 @@ use Rattle.machine.specs.Layout.{freeAt, heldAt, wholeAt, freeCellsAt, recAt, c
 use Rattle.machine.specs.Rows.{rowOff}
 use Rattle.machine.specs.Counting.{inside}
 use Rattle.machine.specs.Chains.{link, walk}
-use Rattle.laws.specs.Marks.{Walked, scan, allMarked, three}
-use Rattle.laws.specs.Counting.{inside-is}
-use Rattle.laws.specs.Rows.{off-step}
+use Rattle.machine_laws.specs.Marks.{Walked, scan, allMarked, three}
+use Rattle.machine_laws.specs.Counting.{inside-is}
+use Rattle.machine_laws.specs.Rows.{off-step}
 use Rattle.rows.specs.declared.Holds.{Holds}
 use Rattle.rows.specs.declared.Holds.the-variants.{Free, Record, Piece}
 use Rattle.rows.specs.Asked.{rowFits, Sized}

@@ -21,11 +21,11 @@ use Rattle.machine.specs.Layout.{cellAt, numAt, cellOf, recOf, labelOf, sending
 use Rattle.machine.specs.Sound.{headTests, cellFits, recTests, recFits, noRec, distinct, recPlaces, piecePlaces}
 use Rattle.machine.specs.Sound.{recShape, cellTests, cellShape, freeShape, shapeTests, soundTests, sound, rising}
 use Rattle.packet.specs.Frame.{largestPiece}
-use Rattle.laws.specs.Tests.{every-true, true-every, all-parts, all-append}
-use Rattle.laws.specs.Counting.{inside-is}
-use Rattle.laws.specs.Chains.{map-place}
-use Rattle.laws.specs.Marks.{three-is}
-use Rattle.laws.specs.StoreRows.{pieces-append}
+use Rattle.machine_laws.specs.Tests.{every-true, true-every, all-parts, all-append}
+use Rattle.machine_laws.specs.Counting.{inside-is}
+use Rattle.machine_laws.specs.Chains.{map-place}
+use Rattle.machine_laws.specs.Marks.{three-is}
+use Rattle.machine_laws.specs.StoreRows.{pieces-append}
 use Rattle.rows.specs.Asked.{headFits, ownTests, recordFits, pieceFits}
 use Rattle.soundness.specs.Walked.{Room, RecordsInside, Chained, piecesAt, piecesOf, noMarks, recordsOnce}
 use Rattle.soundness.specs.Walked.{cellsOnce, readable, piecesFit, recordPieces, unlike, recordsFit}

@@ -18,7 +18,7 @@ use Rattle.machine.specs.Layout.{freeAt, heldAt, wholeAt, freeCellsAt, firstCel
 use Rattle.machine.specs.Layout.{numberWidth, recAt, cellAt, numAt, labelOf, recChain, cellChain, readCells}
 use Rattle.machine.specs.Sound.{rising, sizes, isCut}
 use Rattle.packet.specs.Frame.{largestPiece}
-use Rattle.laws.specs.Marks.{Walked, scan, three}
+use Rattle.machine_laws.specs.Marks.{Walked, scan, three}
 use Rattle.rows.specs.declared.Holds.{Holds}
 use Rattle.rows.specs.declared.Holds.the-variants.{Free, Record, Piece}
 use Rattle.rows.specs.Asked.{rowFits, Sized}

@@ -3,7 +3,7 @@
 ghost use mathlib.Core.Path.{_≡_};
 ghost use Prim.Native.Nat.{_≤_};
 ghost use Rattle.machine.specs.Limits.{mostCells};
-ghost use Rattle.laws.specs.Marks.{allMarked};
+ghost use Rattle.machine_laws.specs.Marks.{allMarked};
 ghost use Rattle.soundness.specs.Walked.{recordTable, cellTable, Fitting, chainMarked};
 
 // Rows of one size, one behind the other from a start on; a walk along their links takes at most `steps` steps.

@@ -1,5 +1,6 @@
 // Setup: a store becomes fresh.
 
+use rows::answer;
 ghost use mathlib.Core.Path.{_≡_};
 ghost use mathlib.Core.Bool.{true};
 ghost use Prim.Native.Nat.{_+_, _*_, _≤_, _<_};

@@ -8,8 +8,8 @@ use Rattle.machine.specs.Values.{Rec, Key}
 use Rattle.machine.specs.Layout.{encode, decode}
 use Rattle.machine.specs.Receive.{dropStep}
 use Rattle.machine.specs.Refusals.{refusal, heldRow}
-use Rattle.store.specs.RefuseLaws.{clear, refused, done}
-use Rattle.store.specs.SearchLaws.{Search, ended, met, here, own-key, none-met, asks-met}
+use Rattle.records.specs.RefuseLaws.{clear, refused, done}
+use Rattle.records.specs.SearchLaws.{Search, ended, met, here, own-key, none-met, asks-met}
 use borrow.Author.Needs.{needs}
 use Rattle.inbox.proofs.aborted.abort.Statement.{statement}
 use Rattle.inbox.proofs.aborted.abort.Tie as tie

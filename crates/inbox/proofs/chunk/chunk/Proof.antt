@@ -9,10 +9,10 @@ use Rattle.machine.specs.Values.{Rec, Key}
 use Rattle.machine.specs.Layout.{encode, decode}
 use Rattle.machine.specs.Receive.{chunkStep}
 use Rattle.machine.specs.Refusals.{Refusals, refusal, asksOf}
-use Rattle.steps.specs.Refusals.{refusal-clear}
-use Rattle.store.specs.HeldAt.{metAt, recIn, HeldAt}
-use Rattle.store.specs.RefuseLaws.{next, stop, clear, refused, done}
-use Rattle.store.specs.SearchLaws.{Search, ended, number-is, passed, held-here, held-key}
+use Rattle.machine_steps.specs.Refusals.{refusal-clear}
+use Rattle.records.specs.HeldAt.{metAt, recIn, HeldAt}
+use Rattle.records.specs.RefuseLaws.{next, stop, clear, refused, done}
+use Rattle.records.specs.SearchLaws.{Search, ended, number-is, passed, held-here, held-key}
 use Rattle.machine.specs.Packet.{pieceRow, cellRow}
 use Rattle.inbox.proofs.Chunks.{front-refuses, front-passes}
 use borrow.Author.Needs.{needs}

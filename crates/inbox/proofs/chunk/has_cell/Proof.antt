@@ -2,7 +2,7 @@
 use mathlib.Core.Path.{sym, _∙_}
 use Rattle.machine.specs.Codes.{roleReceive}
 use Rattle.machine.specs.Layout.{decode}
-use Rattle.store.specs.HeldAt.{recIn}
+use Rattle.records.specs.HeldAt.{recIn}
 use Rattle.inbox.proofs.Chunks.{own-cell, new-cell}
 use Rattle.inbox.proofs.chunk.has_cell.Statement.{statement}
 use Rattle.inbox.proofs.chunk.has_cell.Tie as tie
@@ -13,7 +13,7 @@ has-piece-requires c κs = ((roleReceive, c .before .pre .0), c .before .pre .1)
 returns : tie.Need-returns
 returns c =
     let a = c .before .before .before .args in
-    own-cell (a .index) (recIn (a .recv .now) (a .at)) (decode (a .recv .now) .freeCells) (sym (c .before .has-piece .ensures) ∙ c .if1 .taken)
+    own-cell (a .index) (recIn (a .recv .now) (a .link)) (decode (a .recv .now) .freeCells) (sym (c .before .has-piece .ensures) ∙ c .if1 .taken)
 
 is-free-cell-requires : tie.Need-is-free-cell-requires
 is-free-cell-requires c κs = record { role = roleReceive; is = c .before .before .before .pre .0 .sound }
@@ -21,7 +21,7 @@ is-free-cell-requires c κs = record { role = roleReceive; is = c .before .befor
 returns-2 : tie.Need-returns-2
 returns-2 c =
     let a = c .before .before .before .before .args in
-    c .is-free-cell .ensures ∙ new-cell (a .index) (recIn (a .recv .now) (a .at)) (decode (a .recv .now) .freeCells) (sym (c .before .before .has-piece .ensures) ∙ c .before .if1 .left)
+    c .is-free-cell .ensures ∙ new-cell (a .index) (recIn (a .recv .now) (a .link)) (decode (a .recv .now) .freeCells) (sym (c .before .before .has-piece .ensures) ∙ c .before .if1 .left)
 
 pub has-cell-spec : {M : Type 1} → statement M
 has-cell-spec =

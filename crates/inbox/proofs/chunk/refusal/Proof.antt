@@ -12,16 +12,16 @@ use Rattle.machine.specs.Codes.{roleReceive}
 use Rattle.machine.specs.Layout.{recOf}
 use Rattle.machine.specs.Refusals.{Refusals, refusal, asksOf}
 use Rattle.machine.specs.Packet.{tooShort, pieceRow}
-use Rattle.store.specs.HeldAt.{metAt, HeldAt}
-use Rattle.store.specs.MetLaws.{searched-inside, searched-held, here-fine, here-reached}
-use Rattle.store.specs.RefuseLaws.{next, stop, clear}
-use Rattle.store.specs.SearchLaws.{none-met, asks-met}
+use Rattle.records.specs.HeldAt.{metAt, HeldAt}
+use Rattle.records.specs.MetLaws.{searched-inside, searched-held, here-fine, here-reached}
+use Rattle.records.specs.RefuseLaws.{next, stop, clear}
+use Rattle.records.specs.SearchLaws.{none-met, asks-met}
 use borrow.Author.Needs.{needs}
 use Rattle.inbox.proofs.chunk.refusal.Statement.{statement}
 use Rattle.inbox.proofs.chunk.refusal.Tie as tie
 
 abbrev row : tie.Start → ℕ
-row s = let a = s .args in refusal (asksOf (metAt (a .recv .now) (a .at)) (pieceRow (a .index) (a .offset) (a .size)))
+row s = let a = s .args in refusal (asksOf (metAt (a .recv .now) (a .link)) (pieceRow (a .index) (a .offset) (a .size)))
 
 -- its tests, of a message of length t
 abbrev tests : tie.Start → ℕ → Refusals
@@ -33,7 +33,7 @@ tests s t =
 abbrev start : tie.Else1 → tie.Start
 start c = c .before .before .before
 
-held : (c : tie.Else1) → HeldAt roleReceive (start c .args .recv .now) (start c .args .at)
+held : (c : tie.Else1) → HeldAt roleReceive (start c .args .recv .now) (start c .args .link)
 held c = searched-held _ _ (λ i. c .before .before .shared-slice-known .given i .fits) _ (start c .pre) (c .if1 .left)
 
 -- .. and its length is read: the row from its n-th test on

@@ -5,9 +5,9 @@ use Rattle.machine.specs.Codes.{roleReceive}
 use Rattle.machine.specs.Values.{Key}
 use Rattle.machine.specs.Layout.{encode, decode}
 use Rattle.machine.specs.Receive.{doneStep}
-use Rattle.steps.specs.Refusals.{refusal-clear}
-use Rattle.store.specs.RefuseLaws.{refused, done}
-use Rattle.store.specs.SearchLaws.{Search, ended, number-is, passed, held-here, held-key}
+use Rattle.machine_steps.specs.Refusals.{refusal-clear}
+use Rattle.records.specs.RefuseLaws.{refused, done}
+use Rattle.records.specs.SearchLaws.{Search, ended, number-is, passed, held-here, held-key}
 use borrow.Author.Needs.{needs}
 use Rattle.inbox.proofs.done.done.Statement.{statement}
 use Rattle.inbox.proofs.done.done.Tie as tie

@@ -16,10 +16,10 @@ use Rattle.machine.specs.Pieces.{joined}
 use Rattle.machine.specs.Sound.{sizes}
 use Rattle.machine.specs.Refusals.{Refusals, refusal}
 use Rattle.machine.specs.Packet.{doneRow}
-use Rattle.store.specs.HeldAt.{metAt, recIn, HeldAt, Reached}
-use Rattle.store.specs.MetLaws.{searched-inside, searched-held, here-fine, here-reached}
-use Rattle.store.specs.RefuseLaws.{next, stop, clear}
-use Rattle.store.specs.SearchLaws.{none-met, asks-met}
+use Rattle.records.specs.HeldAt.{metAt, recIn, HeldAt, Reached}
+use Rattle.records.specs.MetLaws.{searched-inside, searched-held, here-fine, here-reached}
+use Rattle.records.specs.RefuseLaws.{next, stop, clear}
+use Rattle.records.specs.SearchLaws.{none-met, asks-met}
 use Rattle.inbox.proofs.done.refusal.Statement.{statement}
 use Rattle.inbox.proofs.done.refusal.Tie as tie
 
@@ -27,7 +27,7 @@ use Rattle.inbox.proofs.done.refusal.Tie as tie
 abbrev tests : tie.Start → Refusals
 tests s =
     let a = s .args in
-    let r : Rec = recIn (a .recv .now) (a .at) in
+    let r : Rec = recIn (a .recv .now) (a .link) in
     (eqb (a .count) (r .slots), 13)
     ∷ (eqb (length (r .cells)) (r .slots), 14)
     ∷ (eqb (sizes (r .cells)) (r .label .total), 15)
@@ -39,17 +39,17 @@ tests s =
 abbrev start : tie.Else1 → tie.Start
 start c = c .before .before .before .before
 
-held : (c : tie.Else1) → HeldAt roleReceive (start c .args .recv .now) (start c .args .at)
+held : (c : tie.Else1) → HeldAt roleReceive (start c .args .recv .now) (start c .args .link)
 held c = searched-held _ _ (λ i. c .before .before .before .shared-slice-known .given i .fits) _ (start c .pre) (c .if1 .left)
 
-reached : (c : tie.Else1) → Reached (start c .args .recv .now) (start c .args .at)
+reached : (c : tie.Else1) → Reached (start c .args .recv .now) (start c .args .link)
 reached c = here-reached _ _ (λ i. c .before .before .before .shared-slice-known .given i .fits) _ (held c)
 
 -- the row from its n-th test on
 abbrev From : ℕ → tie.Else1 → Type 0
 From n c =
     let a = start c .args in
-    refusal (doneRow (a .count) (a .sum .now) (yes (a .known)) (metAt (a .recv .now) (a .at))) ≡ refusal (drop n (tests (start c)))
+    refusal (doneRow (a .count) (a .sum .now) (yes (a .known)) (metAt (a .recv .now) (a .link))) ≡ refusal (drop n (tests (start c)))
 
 from13 : (c : tie.Else1) → From 0 c
 from13 c = asks-met (start c .pre) _ (c .if1 .left)

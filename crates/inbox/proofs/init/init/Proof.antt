@@ -12,16 +12,16 @@ use Rattle.machine.specs.Layout.{freeAt, encode, decode}
 use Rattle.machine.specs.Receive.{found, initAt}
 use Rattle.machine.specs.Refusals.{Refusals, refusal}
 use Rattle.machine.specs.Packet.{rulesRow, placeRow}
-use Rattle.steps.specs.Find.{is-none}
-use Rattle.steps.specs.Init.{LabelFine}
-use Rattle.steps.specs.Refusals.{Clear, refusal-clear}
-use Rattle.links.specs.InRange.{links}
-use Rattle.store.specs.HeldAt.{metAt}
-use Rattle.store.specs.MetLaws.{found-none, found-some}
-use Rattle.store.specs.Opening.{newLabel}
-use Rattle.store.specs.EstablishedLaws.{openable, free-is}
-use Rattle.store.specs.RefuseLaws.{front-stop, front-next, refused, done}
-use Rattle.store.specs.SearchLaws.{Search, met, here, own-key}
+use Rattle.machine_steps.specs.Find.{is-none}
+use Rattle.machine_steps.specs.Init.{LabelFine}
+use Rattle.machine_steps.specs.Refusals.{Clear, refusal-clear}
+use Rattle.machine_writes.specs.InRange.{links}
+use Rattle.records.specs.HeldAt.{metAt}
+use Rattle.records.specs.MetLaws.{found-none, found-some}
+use Rattle.records.specs.Opening.{newLabel}
+use Rattle.records.specs.EstablishedLaws.{openable, free-is}
+use Rattle.records.specs.RefuseLaws.{front-stop, front-next, refused, done}
+use Rattle.records.specs.SearchLaws.{Search, met, here, own-key}
 use borrow.Author.Needs.{needs}
 use Rattle.inbox.proofs.init.init.Statement.{statement}
 use Rattle.inbox.proofs.init.init.Tie as tie

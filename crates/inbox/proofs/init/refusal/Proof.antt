@@ -7,16 +7,16 @@ use lib.ListN.{drop, getD}
 use borrow.Author.Tests.{le-leb, lt-leb, eq-eqb, ne-eqb}
 use Rattle.machine.specs.Layout.{decode}
 use Rattle.machine.specs.Refusals.{Refusals, refusal}
-use Rattle.store.specs.HeldAt.{metAt}
-use Rattle.store.specs.MetLaws.{searched-inside}
-use Rattle.store.specs.RefuseLaws.{next, stop, clear}
+use Rattle.records.specs.HeldAt.{metAt}
+use Rattle.records.specs.MetLaws.{searched-inside}
+use Rattle.records.specs.RefuseLaws.{next, stop, clear}
 use Rattle.machine.specs.Packet.{placeRow}
 use borrow.Author.Needs.{needs}
 use Rattle.inbox.proofs.init.refusal.Statement.{statement}
 use Rattle.inbox.proofs.init.refusal.Tie as tie
 
 abbrev row : tie.Start → Refusals
-row s = let a = s .args in placeRow (a .id .now) (a .total) (decode (a .recv .now)) (metAt (a .recv .now) (a .at))
+row s = let a = s .args in placeRow (a .id .now) (a .total) (decode (a .recv .now)) (metAt (a .recv .now) (a .link))
 
 -- the row from its n-th test on
 abbrev From : ℕ → tie.Start → Type 0
@@ -40,13 +40,13 @@ shared-slice-read-if3 c =
     searched-inside _ _ (λ i. known .before .shared-slice-known .given i .fits) _ (known .before .before .pre)
 
 -- no record is held
-none-held : (c : tie.Else3) → let a = c .before .before .before .before .before .before .before .args in getD (a .recv .now) (a .at) 0 ≡ 0
+none-held : (c : tie.Else3) → let a = c .before .before .before .before .before .before .before .args in getD (a .recv .now) (a .link) 0 ≡ 0
 none-held c = omega (arith, c .if3 .left)
 
 returns-3 : tie.Need-returns-3
 returns-3 c =
     let a = c .before .before .before .before .before .before .before .args in
-    sym (from7 (c .before .before) ∙ next _ _ _ (rw (ne-eqb (getD (a .recv .now) (a .at) 0) 0 (λ e. omega (arith, c .if3 .taken)))) ∙ clear)
+    sym (from7 (c .before .before) ∙ next _ _ _ (rw (ne-eqb (getD (a .recv .now) (a .link) 0) 0 (λ e. omega (arith, c .if3 .taken)))) ∙ clear)
 
 returns-4 : tie.Need-returns-4
 returns-4 c =

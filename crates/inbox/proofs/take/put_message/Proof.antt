@@ -5,10 +5,10 @@ use mathlib.Core.Path.{refl, ap}
 use lib.ListN.{length}
 use Rattle.octets.specs.Octets.{Bytes}
 use Rattle.machine.specs.Layout.{wholeAt, readCells}
-use Rattle.links.specs.InRange.{links}
+use Rattle.machine_writes.specs.InRange.{links}
 use Rattle.machine.specs.Codes.{roleReceive}
 use Rattle.machine.specs.Sound.{sizes}
-use Rattle.store.specs.HeldAt.{Reached}
+use Rattle.records.specs.HeldAt.{Reached}
 use Rattle.inbox.specs.OldestLaws.{oldest-placed, oldest-first, oldest-pieces, oldest-sizes}
 use Rattle.inbox.proofs.Takes.{row-short, message-is}
 use borrow.Author.Needs.{needs}

@@ -4,7 +4,7 @@ use mathlib.Core.Path.{ap, _∙_}
 use lib.ListN.{length}
 use Rattle.octets.specs.Octets.{Bytes}
 use Rattle.machine.specs.Layout.{wholeAt}
-use Rattle.store.specs.HeldAt.{Reached}
+use Rattle.records.specs.HeldAt.{Reached}
 use Rattle.inbox.specs.OldestLaws.{oldest-placed, oldest-head}
 use Rattle.inbox.proofs.Takes.{read-is}
 use borrow.Author.Needs.{needs}

@@ -6,10 +6,10 @@ use lib.ListN.{length, getD}
 use Rattle.octets.specs.Octets.{Bytes}
 use Rattle.machine.specs.Limits.{recBytes}
 use Rattle.machine.specs.Layout.{wholeAt}
-use Rattle.store.specs.HeldAt.{recIn}
+use Rattle.records.specs.HeldAt.{recIn}
 use Rattle.machine.specs.Codes.{roleReceive}
-use Rattle.links.specs.InRange.{links}
-use Rattle.store.specs.EstablishedLaws.{takable}
+use Rattle.machine_writes.specs.InRange.{links}
+use Rattle.records.specs.EstablishedLaws.{takable}
 use Rattle.inbox.specs.Oldest.{Oldest}
 use Rattle.inbox.specs.OldestLaws.{oldest-placed, oldest-fine, total-is}
 use Rattle.inbox.proofs.Taken.{none-out, run-out, data-out, taken-out}

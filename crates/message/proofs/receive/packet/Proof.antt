@@ -8,7 +8,7 @@ use Rattle.octets.specs.Octets.{put}
 use Rattle.packet.specs.declared.header.Kind.{Kind}
 use Rattle.packet.specs.Frame.{kindOf}
 use Rattle.machine.specs.Packet.{kind, isKind, kindWake, replyBytes, packetRow, packetOf, arrival}
-use Rattle.store.specs.RefuseLaws.{next, stop}
+use Rattle.records.specs.RefuseLaws.{next, stop}
 use Rattle.message.specs.Both.{bothOf, replyOut}
 use Rattle.message.proofs.Packets.{Call, From, refused, step-out, done-out}
 use borrow.Author.Needs.{needs}

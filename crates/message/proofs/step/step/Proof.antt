@@ -16,8 +16,8 @@ use Rattle.machine.specs.Receive.{found, initStep, chunkStep, doneStep, dropSte
 use Rattle.machine.specs.Send.{change, withState, ackPiece}
 use Rattle.machine.specs.Refusals.{refusal, heldRow}
 use Rattle.machine.specs.Packet.{Packet, asked, isReply, chunkRow, doneRow, stateRow, ackChunkRow, kindRow, recvStep, sendStep, arrival, rulesRow, placeRow}
-use Rattle.store.specs.Opening.{newLabel}
-use Rattle.store.specs.Step.{stepped}
+use Rattle.records.specs.Opening.{newLabel}
+use Rattle.records.specs.Step.{stepped}
 use Rattle.message.proofs.Steps.{Stores, receives, sends}
 use borrow.Author.Needs.{needs}
 use Rattle.message.proofs.step.step.Statement.{statement}

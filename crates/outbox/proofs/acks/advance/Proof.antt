@@ -9,9 +9,9 @@ use Rattle.machine.specs.Layout.{recOf, decode}
 use Rattle.machine.specs.Receive.{found}
 use Rattle.machine.specs.Refusals.{refusal}
 use Rattle.machine.specs.Packet.{stateRow}
-use Rattle.store.specs.HeldAt.{recIn}
-use Rattle.store.specs.RefuseLaws.{next, stop, clear}
-use Rattle.store.specs.SearchLaws.{Search, ended, here, own-key, none-met, asks-met, number-is}
+use Rattle.records.specs.HeldAt.{recIn}
+use Rattle.records.specs.RefuseLaws.{next, stop, clear}
+use Rattle.records.specs.SearchLaws.{Search, ended, here, own-key, none-met, asks-met, number-is}
 use Rattle.outbox.specs.Leaves.{Here}
 use Rattle.outbox.specs.HereLaws as leaves
 use borrow.Author.Needs.{needs}

@@ -1,7 +1,7 @@
 -- Assumes nothing.
 use mathlib.Core.Path.{sym}
 use Rattle.machine.specs.Layout.{recOf}
-use Rattle.store.specs.HeldAt.{recIn}
+use Rattle.records.specs.HeldAt.{recIn}
 use Rattle.outbox.specs.AckedLaws.{acked-is}
 use borrow.Author.Needs.{needs}
 use Rattle.outbox.proofs.done.all_acked.Statement.{statement}

@@ -4,9 +4,9 @@ use native.Mathlib.Omega.{arith}
 use mathlib.Core.Path.{_≡_, ap, _∙_}
 use lib.ListN.{length, getD}
 use Rattle.octets.specs.Octets.{capacity}
-use Rattle.cells.specs.InPlace.{CellIn}
-use Rattle.cells.specs.OfHeldLaws.{first-here}
-use Rattle.cells.specs.ReadLaws.{cell-in}
+use Rattle.pieces.specs.InPlace.{CellIn}
+use Rattle.pieces.specs.OfHeldLaws.{first-here}
+use Rattle.pieces.specs.ReadLaws.{cell-in}
 use Rattle.outbox.specs.Sending.{Turn}
 use Rattle.outbox.proofs.Going.{Given, Going, going-start, going-long, going-turn, going-more, going-done, going-out}
 use Rattle.outbox.proofs.due.send_due.Statement.{statement}

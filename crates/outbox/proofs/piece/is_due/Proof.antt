@@ -7,7 +7,7 @@ use Rattle.octets.specs.Octets.{part, num}
 use Rattle.octets.specs.PartsLaws.{part-part}
 use Rattle.machine.specs.Limits.{cellBytes}
 use Rattle.machine.specs.Layout.{stampAt, numberWidth, cellOff, cellOf, readCell}
-use Rattle.cells.specs.ReadLaws.{piece-state}
+use Rattle.pieces.specs.ReadLaws.{piece-state}
 use borrow.Author.Needs.{needs}
 use Rattle.outbox.proofs.piece.is_due.Statement.{statement}
 use Rattle.outbox.proofs.piece.is_due.Tie as tie

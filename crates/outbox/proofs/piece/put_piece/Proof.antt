@@ -8,7 +8,7 @@ use Rattle.octets.specs.Octets.{part, num}
 use Rattle.octets.specs.PartsLaws.{part-of}
 use Rattle.packet.specs.Frame.{largestPiece}
 use Rattle.machine.specs.Layout.{indexAt, cellOff, cellOf, readCell}
-use Rattle.cells.specs.ReadLaws.{cell-in, cell-byte, sizeOf, piece-bytes, piece-size}
+use Rattle.pieces.specs.ReadLaws.{cell-in, cell-byte, sizeOf, piece-bytes, piece-size}
 use Rattle.outbox.specs.Sending.{chunkOf}
 use Rattle.outbox.specs.EntriesLaws.{chunk-length}
 use borrow.Author.Needs.{needs}

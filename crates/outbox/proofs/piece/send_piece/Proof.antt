@@ -2,8 +2,8 @@
 use native.Mathlib.Omega.{arith}
 use mathlib.Core.Path.{sym, _∙_}
 use Rattle.octets.specs.PartsLaws.{put-nil}
-use Rattle.cells.specs.InPlace.{CellIn}
-use Rattle.cells.specs.ReadLaws.{cell-in}
+use Rattle.pieces.specs.InPlace.{CellIn}
+use Rattle.pieces.specs.ReadLaws.{cell-in}
 use borrow.Author.Needs.{needs}
 use Rattle.outbox.proofs.piece.send_piece.Statement.{statement}
 use Rattle.outbox.proofs.piece.send_piece.Tie as tie

@@ -1,7 +1,7 @@
 -- Assumes nothing.
 use native.Mathlib.Omega.{arith}
 use Rattle.machine.specs.Codes.{roleSend}
-use Rattle.links.specs.InRange.{links}
+use Rattle.machine_writes.specs.InRange.{links}
 use Rattle.outbox.proofs.Pushes.{place-none, place-some}
 use Rattle.outbox.proofs.push.first_place.Statement.{statement}
 use Rattle.outbox.proofs.push.first_place.Tie as tie

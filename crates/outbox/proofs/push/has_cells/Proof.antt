@@ -2,8 +2,8 @@
 use mathlib.Core.Path.{_∙_}
 use lib.Dec.{leb}
 use Rattle.machine.specs.Codes.{roleSend}
-use Rattle.links.specs.InRange.{links}
-use Rattle.cells.specs.CuttingLaws.{free-count}
+use Rattle.machine_writes.specs.InRange.{links}
+use Rattle.pieces.specs.CuttingLaws.{free-count}
 use borrow.Author.Needs.{needs}
 use Rattle.outbox.proofs.push.has_cells.Statement.{statement}
 use Rattle.outbox.proofs.push.has_cells.Tie as tie

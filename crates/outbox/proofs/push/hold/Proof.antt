@@ -1,8 +1,8 @@
 -- Assumes nothing.
 use mathlib.Core.Path.{sym, subst}
 use Rattle.octets.specs.Octets.{Bytes}
-use Rattle.store.specs.Opening.{Openable}
-use Rattle.store.specs.OpenedLaws.{fine-fields}
+use Rattle.records.specs.Opening.{Openable}
+use Rattle.records.specs.OpenedLaws.{fine-fields}
 use Rattle.outbox.specs.PushedLaws.{cut-openable, push-opened}
 use borrow.Author.Needs.{needs}
 use Rattle.outbox.proofs.push.hold.Statement.{statement}

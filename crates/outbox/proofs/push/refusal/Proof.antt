@@ -10,7 +10,7 @@ use Rattle.octets.specs.Octets.{capacity}
 use Rattle.machine.specs.Layout.{numberLimit, decode}
 use Rattle.machine.specs.Refusals.{Refusals, refusal}
 use Rattle.machine.specs.Push.{pushed, pushTests}
-use Rattle.store.specs.RefuseLaws.{next, stop, clear}
+use Rattle.records.specs.RefuseLaws.{next, stop, clear}
 use borrow.Author.Needs.{needs}
 use Rattle.outbox.proofs.push.refusal.Statement.{statement}
 use Rattle.outbox.proofs.push.refusal.Tie as tie

@@ -5,7 +5,7 @@ use mathlib.Core.Path.{sym, _∙_}
 use lib.ListN.{length-replicate}
 use Rattle.octets.specs.PartsLaws.{part-of, length-part, put-whole}
 use Rattle.machine.specs.Layout.{recOff}
-use Rattle.store.specs.HeldAt.{placeAt}
+use Rattle.records.specs.HeldAt.{placeAt}
 use Rattle.outbox.specs.Sending.{namesWidth}
 use borrow.Author.Needs.{needs}
 use Rattle.outbox.proofs.record.names_at.Statement.{statement}

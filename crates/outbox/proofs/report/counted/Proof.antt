@@ -3,7 +3,7 @@ use mathlib.Core.Path.{sym, _∙_}
 use borrow.Author.Tests.{eq-eqb, ne-eqb}
 use Rattle.machine.specs.Codes.{stateInProgress}
 use Rattle.machine.specs.Layout.{recOf}
-use Rattle.store.specs.HeldAt.{recIn}
+use Rattle.records.specs.HeldAt.{recIn}
 use borrow.Author.Needs.{needs}
 use Rattle.outbox.proofs.report.counted.Statement.{statement}
 use Rattle.outbox.proofs.report.counted.Tie as tie

@@ -10,9 +10,9 @@ use Rattle.machine.specs.Layout.{decode}
 use Rattle.machine.specs.Receive.{found}
 use Rattle.machine.specs.Refusals.{Refusals, refusal}
 use Rattle.machine.specs.Wake.{wakeRoom}
-use Rattle.store.specs.MetLaws.{found-some}
-use Rattle.store.specs.RefuseLaws.{next, stop, clear}
-use Rattle.store.specs.SearchLaws.{Search, ended, here, own-key, none-met, asks-met, number-is}
+use Rattle.records.specs.MetLaws.{found-some}
+use Rattle.records.specs.RefuseLaws.{next, stop, clear}
+use Rattle.records.specs.SearchLaws.{Search, ended, here, own-key, none-met, asks-met, number-is}
 use Rattle.outbox.specs.HereLaws as leaves
 use Rattle.outbox.specs.Rows.{wakeTests}
 use borrow.Author.Needs.{needs}

@@ -2,7 +2,7 @@
 use Prim.Native.Nat.{_≤_, _-_}
 use mathlib.Core.Path.{_≡_}
 use native.Mathlib.Omega.{arith}
-use Rattle.laws.specs.Marks.{allMarked}
+use Rattle.machine_laws.specs.Marks.{allMarked}
 use Rattle.soundness.proofs.Walking.{marked-none, marked-more, marked-all}
 use Rattle.soundness.proofs.chain.all_marked.Statement.{statement}
 use Rattle.soundness.proofs.chain.all_marked.Tie as tie

@@ -7,7 +7,7 @@ use borrow.Author.Needs.{needs}
 use borrow.Author.Tests.{not-true, not-false}
 use Rattle.octets.specs.PartsLaws.{part-of}
 use Rattle.machine.specs.Chains.{link, walk}
-use Rattle.laws.specs.Marks.{scan, walk-end, walk-far, walk-twice, walk-bad, walk-more, walk-out}
+use Rattle.machine_laws.specs.Marks.{scan, walk-end, walk-far, walk-twice, walk-bad, walk-more, walk-out}
 use Rattle.rows.specs.Asked.{rowFits}
 use Rattle.soundness.specs.declared.chain.Table.{Table}
 use Rattle.soundness.specs.Walked.{rowOf, chainMarked}

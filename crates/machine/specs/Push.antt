@@ -27,7 +27,7 @@ pub record Push : Type 0 where
   pub created : ℕ
   pub try : ℕ
 
--- the head of the record that is pushed
+-- what is said of the message that is pushed
 abbrev pub pushLabel : Push → Label
 pushLabel p = record {
   id = p .id;

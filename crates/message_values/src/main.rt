@@ -1,5 +1,6 @@
-// Document 01's values that are no theorems, and bad input for each call: a line for each call's answer, which also says whether the stores are as they
-// were, and warns where a buffer was changed past what was written. tools/message_model.py computes the same lines from PROTOCOL without this library.
+// Document 01's values that are no theorems, and bad input for each call: a line for each call's answer,
+// which also says whether the stores are as they were, and warns where a buffer was changed past what was
+// written. tools/message_model.py computes the same lines from PROTOCOL without this library.
 
 mod acks;
 mod arrivals;

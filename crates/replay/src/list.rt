@@ -1,4 +1,4 @@
-// A list, line by line: its calls are made, and what it tells of each is held against the answer.
+// A list, line by line: its calls are made, and what it tells of each is compared with the answer.
 
 use crate::kind;
 use crate::make;
@@ -13,7 +13,8 @@ use rows::answer;
 ghost use Prim.Native.Nat.{_≤_};
 ghost use lib.ListN.{length};
 
-// What holds between two lines: where the lines with the rule book and the known keys start (past the text: there is none yet), and the last call.
+// What holds between two lines: where the lines with the rule book and the known keys start (past the text:
+// there is none yet), and the last call.
 struct State {
     rules: usize,
     known: usize,

@@ -1,5 +1,6 @@
-// Replays lists of calls on the library, and holds each answer against what the original Rust put out (README.md has the form of a list). The arguments
-// name the lists. Writes a line for each: how many lines of each kind agree, or the first that does not.
+// Replays lists of calls on the library, and compares each answer with what the original Rust put out
+// (README.md has the form of a list). The arguments name the lists. Writes a line for each: how many lines of
+// each kind agree, or the first that does not.
 
 mod key;
 mod kind;

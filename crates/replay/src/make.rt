@@ -63,7 +63,8 @@ fn push(line: &[u8], me: &[u8; 16], send: &mut [u8], run: &mut [u8]) -> Made {
     push_to(line, &id, me, &to, reply, send, run)
 }
 
-// The rule book of a line `rules BYTES`, into `out`; before any such line, the book that accepts every topic: a zero, as `out` has it.
+// The rule book of a line `rules BYTES`, into `out`; before any such line, the book that accepts every topic:
+// a zero, as `out` has it.
 fn book(line: &[u8], out: &mut [u8]) -> Value {
     if line.len() == 0 {
         return Value::Is(1);

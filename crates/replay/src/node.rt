@@ -49,7 +49,8 @@ fn size(line: &[u8], k: usize) -> usize
     cell::FIRST + cell::BYTES * n as usize
 }
 
-// Makes the address of the key in word 1. Answers the first word that is not the library's: 1 for a key of another form, 2 for another address, or 0.
+// Makes the address of the key in word 1. Answers the first word that is not the library's: 1 for a key of
+// another form, 2 for another address, or 0.
 fn address(line: &[u8], me: &mut [u8; 16]) -> u64 {
     let mut key = [0u8; 32];
     if !value::name(line, 1, &mut key) {

@@ -1,4 +1,4 @@
-// What a list tells of a call, held against the library's answer.
+// What a list tells of a call, compared with the library's answer.
 
 use crate::kind;
 use crate::shown;
@@ -163,8 +163,9 @@ fn shown(line: &[u8], mut call: Call, out: &[u8]) -> Told {
     Told::Same(call)
 }
 
-// A line of that kind, which tells of the call: `run` and `out` are what the library wrote. A refusal is told first, and but for packets each thing once;
-// nothing is told before the first call, whose place a call of no kind takes.
+// A line of that kind, which tells of the call: `run` and `out` are what the library wrote. A refusal is told
+// first, and but for packets each thing once; nothing is told before the first call, whose place a call of no
+// kind takes.
 pub(crate) fn line(line: &[u8], kind: usize, call: Call, run: &[u8], out: &[u8]) -> Told {
     if (kind == kind::OTHER) | (call.kind == kind::OTHER) {
         return Told::Differs(Why::Form);

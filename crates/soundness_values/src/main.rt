@@ -1,5 +1,6 @@
-// What is sound and what is not: stores made here, and bytes near them, each with how many of them are found sound. The expected lines
-// were computed by a model of PROTOCOL's rules that was written apart from this code.
+// What is sound and what is not: stores made here, and bytes near them, each with how many of them are found
+// sound. The expected lines were computed by a model of PROTOCOL's rules that was written apart from this
+// code.
 
 ghost use mathlib.Core.Path.{_≡_};
 ghost use Prim.Native.Nat.{_+_, _≤_, _<_};

@@ -1,6 +1,7 @@
-// Rule books: each way to be malformed, and each way to be answered. The expected refusal numbers were made from PROTOCOL by a reader in
-// Python that tests addresses with the module ipaddress. Addresses are 16 letters: the source `near` starts with the first 32 bits of
-// abcdefghijklmnop, and `far` differs from it in the last of those; prefix bits are \x20 (32), \x80 (128), \x81 and 0.
+// Rule books: each way to be malformed, and each way to be answered. The expected refusal numbers were made
+// from PROTOCOL by a reader in Python that tests addresses with the module ipaddress. Addresses are 16
+// letters: the source `near` starts with the first 32 bits of abcdefghijklmnop, and `far` differs from it in
+// the last of those; prefix bits are \x20 (32), \x80 (128), \x81 and 0.
 use libc::STDOUT_FILENO;
 use topic::Admission;
 

@@ -1,6 +1,7 @@
-// Prefix vectors: addresses against the net 2001:db8:85a3:8d3:1319:8a2e:370:7348. For each prefix length there is an address with all bits
-// past the prefix turned over, one with the first of those, and one with the last bit of the prefix. Whether an address is inside was
-// computed with Python's module ipaddress: ip_address(source) in ip_network((net, bits), strict=False).
+// Prefix vectors: addresses against the net 2001:db8:85a3:8d3:1319:8a2e:370:7348. For each prefix length
+// there is an address with all bits past the prefix turned over, one with the first of those, and one with
+// the last bit of the prefix. Whether an address is inside was computed with Python's module ipaddress:
+// ip_address(source) in ip_network((net, bits), strict=False).
 ghost use Prim.Native.Nat.{_<_};
 use libc::STDOUT_FILENO;
 use topic::subnet::contains;

@@ -38,8 +38,8 @@ fn wake(
     play::report(tablet_send, id);
 }
 
-// The first deadline: the tablet gives the message up, and the office drops what has come of it. That its record is gone there shows in the
-// aborted packet's second coming, and the tablet sends nothing more.
+// The first deadline: the tablet gives the message up, and the office drops what has come of it. That its
+// record is gone there shows in the aborted packet's second coming, and the tablet sends nothing more.
 pub(crate) fn give_up(
     tablet_recv: &mut [u8],
     tablet_send: &mut [u8],

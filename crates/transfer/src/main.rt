@@ -1,5 +1,6 @@
-// Plays whole transfers of messages between a tablet and an office, and writes a trace: each call's answer and each packet. The last message never
-// becomes whole, and ends at its deadline. tools/message_model.py computes the same trace from PROTOCOL without this library.
+// Plays whole transfers of messages between a tablet and an office, and writes a trace: each call's answer
+// and each packet. The last message never becomes whole, and ends at its deadline. tools/message_model.py
+// computes the same trace from PROTOCOL without this library.
 
 mod deadline;
 mod play;

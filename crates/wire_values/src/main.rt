@@ -1,5 +1,6 @@
-// Writes what the wire crates give for fixed inputs: the kind of all 256 flag bytes, a dozen addresses, and an entry of each kind of packet.
-// The file stdout holds what tools/wire_values.py computes for the same inputs without them.
+// Writes what the wire crates give for fixed inputs: the kind of all 256 flag bytes, a dozen addresses, and
+// an entry of each kind of packet. The file stdout holds what tools/wire_values.py computes for the same
+// inputs without them.
 
 use libc::STDOUT_FILENO;
 use packet::header::Kind;

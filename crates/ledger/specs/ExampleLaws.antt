@@ -111,7 +111,9 @@ abbrev pub mixed : List (List ℕ)
 mixed = init 3 ∷ chunk 0 0 old ∷ init 3 ∷ done 1 new ∷ chunk 0 0 old ∷ done 1 new ∷ chunk 0 0 new ∷ done 1 new ∷ done 1 new ∷ []
 
 mixed-numbers : numbers (map heard mixed) (fresh roleReceive 2) sender ≡ 0 ∷ 0 ∷ 0 ∷ 14 ∷ 0 ∷ 16 ∷ 0 ∷ 0 ∷ 8 ∷ []
-unfolding numbers old new id frame init chunk done address part be num same add rotr half mix upright slanted columns diagonals round rounds start compress chaining rootBlock wordAt blockAt flagsAt before lastNode chunkNode parentNode level node bytes blake3 kindOf header chunkPacket donePacket sameKey rise sizes find swap without refusal putPiece joined initAt chunkAt doneAt kindRow recvStep sendStep tooShort
+unfolding numbers old new id frame init chunk done address part be num same add rotr half mix upright slanted columns diagonals round rounds start
+    compress chaining rootBlock wordAt blockAt flagsAt before lastNode chunkNode parentNode level node bytes blake3 kindOf header chunkPacket
+    donePacket sameKey rise sizes find swap without refusal putPiece joined initAt chunkAt doneAt kindRow recvStep sendStep tooShort
 mixed-numbers = refl
 
 -- a survey of two pieces, its packets lost, repeated and out of order; and what comes when it is whole
@@ -121,7 +123,8 @@ lossy =
     ∷ chunk 1 250 piece1 ∷ done 2 whole ∷ init 260 ∷ []
 
 lossy-numbers : numbers (map heard lossy) (fresh roleReceive 2) sender ≡ 0 ∷ 0 ∷ 0 ∷ 0 ∷ 13 ∷ 14 ∷ 0 ∷ 0 ∷ 8 ∷ 8 ∷ 5 ∷ []
-unfolding numbers id frame init chunk done address survey arriving part be num same kindOf header chunkPacket donePacket sameKey rise find swap without refusal putPiece initAt chunkAt doneAt kindRow recvStep sendStep tooShort piece0 piece1
+unfolding numbers id frame init chunk done address survey arriving part be num same kindOf header chunkPacket donePacket sameKey rise find swap
+    without refusal putPiece initAt chunkAt doneAt kindRow recvStep sendStep tooShort piece0 piece1
 lossy-numbers =
     ap (λ (l : List ℕ). 0 ∷ 0 ∷ 0 ∷ 0 ∷ 13 ∷ 14 ∷ 0 ∷ l)
     (told (heard (done 2 whole)) (map heard (chunk 1 250 piece1 ∷ done 2 whole ∷ init 260 ∷ [])) (holding piece0 piece1) 0 done-right)
@@ -144,7 +147,8 @@ unfolding piece0 piece1 survey refusal sizes joined
 done-mixed differ = done-number whole piece0 old1 ∙ rw differ
 
 late-numbers : Differ → numbers (map heard late) (fresh roleReceive 2) sender ≡ 0 ∷ 0 ∷ 0 ∷ 0 ∷ 0 ∷ 16 ∷ 0 ∷ 0 ∷ []
-unfolding numbers id frame init chunk done address survey arriving part be num same kindOf header chunkPacket donePacket sameKey rise find swap without refusal putPiece initAt chunkAt doneAt kindRow recvStep sendStep tooShort piece0 piece1
+unfolding numbers id frame init chunk done address survey arriving part be num same kindOf header chunkPacket donePacket sameKey rise find swap
+    without refusal putPiece initAt chunkAt doneAt kindRow recvStep sendStep tooShort piece0 piece1
 late-numbers differ =
     ap (λ (l : List ℕ). 0 ∷ 0 ∷ 0 ∷ 0 ∷ 0 ∷ l)
     (told (heard (done 2 whole)) (map heard (chunk 1 250 piece1 ∷ done 2 whole ∷ [])) (holding piece0 old1) 16 (done-mixed differ)

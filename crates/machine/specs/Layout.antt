@@ -3,6 +3,7 @@ use Prim.Native.Nat.{ℕ, suc}
 use mathlib.Core.List.{List, [], _∷_, _++_, map}
 use lib.ListN.{length, getD, replicate}
 use Rattle.octets.specs.Octets.{part, be, num, capacity}
+use Rattle.packet.specs.Frame.{idSize, addressSize}
 use Rattle.machine.specs.Limits.{headBytes, recCount, recBytes, cellBytes, mostCells, storeBytes}
 use Rattle.machine.specs.Codes.{heldKind, kindWhole}
 use Rattle.machine.specs.Values.{Label, Cell, Sending, Rec, Store}
@@ -104,10 +105,10 @@ bytesAt = 16
 
 -- widths: an id, an address, a number, a piece's size, the zeros between a cell's state and its data
 abbrev pub idWidth : ℕ
-idWidth = 8
+idWidth = idSize
 
 abbrev pub addressWidth : ℕ
-addressWidth = 16
+addressWidth = addressSize
 
 abbrev pub numberWidth : ℕ
 numberWidth = 8

@@ -15,7 +15,9 @@ use Rattle.packet.specs.declared.header.Kind.the-variants.{Init, Chunk, Done, R
 use Rattle.packet.specs.Frame.{has, replyFlag, kindOf, idOf, flagsOf, initLength, initTopic, chunkIndex, chunkOffset, chunkSize, piece, doneCount, doneSum}
 use Rattle.packet.specs.Outgoing.{entry, replyPacket, initReply, chunkReply, doneReply}
 use Rattle.machine.specs.Limits.{longest, leastPiece, topOf}
-use Rattle.machine.specs.Codes.{roleReceive, roleSend, stateInit, stateInProgress, stateReceived, stateRead, badFrame, shortOutput, badRules, closedTopic, alreadyWhole, tooLong, noRecord, pastEnd, highIndex, shortPiece, noCell, wrongCount, gap, wrongTotal, wrongSum, noKey, wrongState, noSuchPiece, noWork, unsoundStore, yes}
+use Rattle.machine.specs.Codes.{roleReceive, roleSend, stateInit, stateInProgress, stateReceived, stateRead, badFrame, shortOutput, badRules}
+use Rattle.machine.specs.Codes.{closedTopic, alreadyWhole, tooLong, noRecord, pastEnd, highIndex, shortPiece, noCell, wrongCount, gap}
+use Rattle.machine.specs.Codes.{wrongTotal, wrongSum, noKey, wrongState, noSuchPiece, noWork, unsoundStore, yes}
 use Rattle.machine.specs.Values.{Label, Rec, Store, Key}
 use Rattle.machine.specs.Layout.{encode, decode}
 use Rattle.machine.specs.Sound.{sound, sizes}

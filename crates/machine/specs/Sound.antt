@@ -15,7 +15,8 @@ use Rattle.machine.specs.Values.{Cell, Sending, Rec, Store, keyOf, sameK
 use Rattle.machine.specs.Tests.{every}
 use Rattle.machine.specs.Rows.{zeroFrom}
 use Rattle.machine.specs.Counting.{inside, once, rise}
-use Rattle.machine.specs.Layout.{formAt, form, restAt, kindAt, topicSizeAt, topicAt, sizeAt, gapAt, bytesAt, sizeWidth, gapWidth, cellPlace, recPlace, recAt, cellAt, numAt, decode}
+use Rattle.machine.specs.Layout.{formAt, form, restAt, kindAt, topicSizeAt, topicAt, sizeAt, gapAt, bytesAt, sizeWidth, gapWidth, cellPlace}
+use Rattle.machine.specs.Layout.{recPlace, recAt, cellAt, numAt, decode}
 
 -- ---- the head
 

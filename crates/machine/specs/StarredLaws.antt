@@ -17,7 +17,8 @@ use Rattle.machine.specs.Samples.{id, frame, init, chunk, address, hear,
 use Rattle.machine.specs.Starred.{Value, starred}
 
 pub starred-hold : All (λ (v : Value). v .gives ≡ v .should) starred
-unfolding starred id frame init chunk address hear opened part be num same header chunkPacket donePacket kindOf sameKey rise sizes find swap without refusal putPiece initAt chunkAt kindRow recvStep tooShort
+unfolding starred id frame init chunk address hear opened part be num same header chunkPacket donePacket kindOf sameKey rise sizes find swap
+    without refusal putPiece initAt chunkAt kindRow recvStep tooShort
 starred-hold =
     refl & refl & refl & refl & refl & refl & refl & refl & refl & refl & refl & refl & refl & refl & refl & refl & refl & refl & refl & refl & refl & refl
     & tt

@@ -13,7 +13,8 @@ use Rattle.octets.specs.Octets.{part, be, num, capacity, same}
 use Rattle.blake3.specs.Tree.{blake3}
 use Rattle.packet.specs.Frame.{initFlag, chunkFlag, doneFlag, readFlag, ackFlag, kindOf}
 use Rattle.packet.specs.Outgoing.{entry, header, initPacket, chunkPacket, donePacket, abortedPacket}
-use Rattle.machine.specs.Codes.{roleReceive, roleSend, stateInit, stateInProgress, stateReceived, stateRead, stateAborted, pieceStarted, pieceSent, pieceAcked, wrongState, noSuchPiece, unknownId}
+use Rattle.machine.specs.Codes.{roleReceive, roleSend, stateInit, stateInProgress, stateReceived, stateRead, stateAborted, pieceStarted}
+use Rattle.machine.specs.Codes.{pieceSent, pieceAcked, wrongState, noSuchPiece, unknownId}
 use Rattle.machine.specs.Values.{Cell, Rec, Store, sameKey}
 use Rattle.machine.specs.Counting.{rise}
 use Rattle.machine.specs.Sound.{fresh}
@@ -146,7 +147,8 @@ pub tablet-starts : (pushes survey (fresh roleSend 3) ≡ answers 0 (sends (init
     × (wakes sendWake 900 (pushed stateInit) ≡ answers 0 (sends (initPacket id false 1550 topic)) (pushed stateInit))
     × (reports (pushed stateInit) ≡ says stateInit 0 0 0) × (hears (ackChunk 0) (pushed stateInit) ≡ refuses wrongState (pushed stateInit))
     × (hears ackInit (pushed stateInit) ≡ answers 1 [] (pushed stateInProgress)) × (hears ackInit (pushed stateInProgress) ≡ refuses wrongState (pushed stateInProgress))
-unfolding office topic piece0 piece1 survey id frame address ackInit ackChunk pushes hears wakes reports part be num same header kindOf sameKey rise find swap without refusal cutPieces changeAt pushStep wakeOut woken kindRow sendStep kindWake wakeRun wakeStep reported capacity
+unfolding office topic piece0 piece1 survey id frame address ackInit ackChunk pushes hears wakes reports part be num same header kindOf sameKey
+    rise find swap without refusal cutPieces changeAt pushStep wakeOut woken kindRow sendStep kindWake wakeRun wakeStep reported capacity
 tablet-starts = (refl, refl, refl, refl, refl, refl)
 
 -- wakes: both pieces; neither again after 99 ms; the one that is not acknowledged again after 100
@@ -156,7 +158,8 @@ pub tablet-sends : (reports (pushed stateInProgress) ≡ says stateInProgress 2 
     × (hears (ackChunk 1) sent ≡ answers 1 [] (partly 1000)) × (reports (partly 1000) ≡ says stateInProgress 0 1 1)
     × (wakes sendWake 1100 (partly 1000) ≡ answers 0 (sends (chunkPacket id 0 0 piece0) ++ []) (partly 1100))
     × (hears (ackChunk 0) (partly 1100) ≡ answers 1 [] (acked stateInProgress))
-unfolding office topic piece0 piece1 id frame address ackChunk hears wakes reports part be num same header kindOf sameKey rise find swap without refusal changeAt dueOut wakeOut woken kindRow sendStep kindWake wakeRun wakeStep reported joined entry chunkPacket
+unfolding office topic piece0 piece1 id frame address ackChunk hears wakes reports part be num same header kindOf sameKey rise find swap without
+    refusal changeAt dueOut wakeOut woken kindRow sendStep kindWake wakeRun wakeStep reported joined entry chunkPacket
 tablet-sends = (refl, refl, refl, refl, refl, refl, refl, refl, refl)
 
 -- the done, its acknowledgement, and the read: the state is Received when the done is acknowledged, not when it is sent
@@ -164,7 +167,8 @@ pub tablet-ends : (wakes sendWake 1200 (acked stateInProgress) ≡ answers 0 (se
     × (hears read (acked stateInProgress) ≡ refuses wrongState (acked stateInProgress)) × (hears ackDone (acked stateInProgress) ≡ answers 0 [] (acked stateReceived))
     × (wakes sendWake 1300 (acked stateReceived) ≡ answers 0 [] (acked stateReceived)) × (hears read (acked stateReceived) ≡ answers 0 [] (acked stateRead))
     × (reports (acked stateRead) ≡ says stateRead 0 0 0)
-unfolding office topic piece0 piece1 id frame address ackDone read hears wakes reports part be num same header kindOf sameKey rise find swap without refusal changeAt dueOut wakeOut woken kindRow sendStep kindWake wakeRun wakeStep reported joined
+unfolding office topic piece0 piece1 id frame address ackDone read hears wakes reports part be num same header kindOf sameKey rise find swap
+    without refusal changeAt dueOut wakeOut woken kindRow sendStep kindWake wakeRun wakeStep reported joined
 tablet-ends = (refl, refl, refl, refl, refl, refl)
 
 -- the deadline: Aborted, with an aborted packet, and nothing is sent any more; then the record and its cells are free
@@ -173,5 +177,6 @@ pub tablet-aborts : (wakes deadlineWake 9000 sent ≡ answers 0 (sends (abortedP
     ≡ answers 0 [] (holding stateAborted 1 (cell 0 piece0 1000 pieceSent) (cell 1 piece1 1000 pieceSent)))
     × (wakes deadlineWake 9000 (holding stateAborted 1 (cell 0 piece0 1000 pieceSent) (cell 1 piece1 1000 pieceSent)) ≡ answers 0 [] (fresh roleSend 3))
     × (wakes deadlineWake 9000 (fresh roleSend 3) ≡ refuses unknownId (fresh roleSend 3))
-unfolding office topic piece0 piece1 id frame address hears wakes part be num same header kindOf sameKey rise find swap without refusal changeAt dropAt wakeOut woken deadlineOut deadlineAt wakeRun wakeStep
+unfolding office topic piece0 piece1 id frame address hears wakes part be num same header kindOf sameKey rise find swap without refusal changeAt
+    dropAt wakeOut woken deadlineOut deadlineAt wakeRun wakeStep
 tablet-aborts = (refl, refl, refl, refl)

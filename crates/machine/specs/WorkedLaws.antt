@@ -94,7 +94,10 @@ m9 = finished (8 ∷ 0 ∷ 0 ∷ 16 ∷ 0 ∷ 14 ∷ 0 ∷ 0 ∷ 0 ∷ []) (one 
 -- sum (16); the new piece and the done; the done repeated (8)
 mixed-steps : (hear (chunk 0 0 old) (hear (init 3) opened) ≡ m2) × (hear (done 1 new) (hear (init 3) m2) ≡ m4)
     × (hear (done 1 new) (hear (chunk 0 0 old) m4) ≡ m6) × (hear (done 1 new) (hear (chunk 0 0 new) m6) ≡ m8) × (hear (done 1 new) m8 ≡ m9)
-unfolding old new one m2 m4 m6 m8 m9 id frame init chunk done address hear opened survey arriving finished part be num same add rotr half mix upright slanted columns diagonals round rounds start compress chaining rootBlock wordAt blockAt flagsAt before lastNode chunkNode parentNode level node bytes blake3 kindOf header chunkPacket donePacket sameKey rise sizes find swap without refusal putPiece joined initAt chunkAt doneAt dropAt kindRow recvStep tooShort
+unfolding old new one m2 m4 m6 m8 m9 id frame init chunk done address hear opened survey arriving finished part be num same add rotr half mix
+    upright slanted columns diagonals round rounds start compress chaining rootBlock wordAt blockAt flagsAt before lastNode chunkNode parentNode level
+    node bytes blake3 kindOf header chunkPacket donePacket sameKey rise sizes find swap without refusal putPiece joined initAt chunkAt doneAt dropAt
+    kindRow recvStep tooShort
 mixed-steps = (refl, refl, refl, refl, refl)
 
 -- the new survey is whole, as it was sent; nothing of the older is left
@@ -125,7 +128,10 @@ l8 = arriving (0 ∷ 0 ∷ 14 ∷ 13 ∷ 0 ∷ 0 ∷ 0 ∷ 0 ∷ []) (survey 260
 -- the init twice; piece 1 twice, with offset 0; a done with a count of 1 (13) and one of 2 (14: a gap); piece 0 twice
 pub lossy-steps : (hear (init 260) (hear (init 260) opened) ≡ l2) × (hear (chunk 1 0 piece1) (hear (chunk 1 0 piece1) l2) ≡ l4)
     × (hear (done 2 (piece0 ++ piece1)) (hear (done 1 (piece0 ++ piece1)) l4) ≡ l6) × (hear (chunk 0 0 piece0) (hear (chunk 0 0 piece0) l6) ≡ l8)
-unfolding piece0 piece1 l2 l4 l6 l8 id frame init chunk done address hear opened survey arriving finished part be num same add rotr half mix upright slanted columns diagonals round rounds start compress chaining rootBlock wordAt blockAt flagsAt before lastNode chunkNode parentNode level node bytes blake3 kindOf header chunkPacket donePacket sameKey rise sizes find swap without refusal putPiece joined initAt chunkAt doneAt dropAt kindRow recvStep tooShort
+unfolding piece0 piece1 l2 l4 l6 l8 id frame init chunk done address hear opened survey arriving finished part be num same add rotr half mix
+    upright slanted columns diagonals round rounds start compress chaining rootBlock wordAt blockAt flagsAt before lastNode chunkNode parentNode level
+    node bytes blake3 kindOf header chunkPacket donePacket sameKey rise sizes find swap without refusal putPiece joined initAt chunkAt doneAt dropAt
+    kindRow recvStep tooShort
 lossy-steps = (refl, refl, refl, refl)
 
 -- the done of both pieces is not refused, whatever their sum is

@@ -19,7 +19,8 @@ use Rattle.machine.specs.Valid.{CellSized}
 use Rattle.packet.specs.Frame.{largestPiece}
 use Rattle.octets.specs.ListsLaws.{_&_}
 use Rattle.machine_laws.specs.Tests.{every-true, true-every}
-use Rattle.machine_laws.specs.Fields.{Fit, width, start, length-join, field-at, join-cuts, gets-is, zeros-part, pad-row, pad-zero, length-pad, bytes-pad, bytes-join, bytes-of, bytes-cons, bytes-zeros}
+use Rattle.machine_laws.specs.Fields.{Fit, width, start, length-join, field-at, join-cuts, gets-is, zeros-part, pad-row, pad-zero, length-pad}
+use Rattle.machine_laws.specs.Fields.{bytes-pad, bytes-join, bytes-of, bytes-cons, bytes-zeros}
 
 -- the widths of a cell's fields, with a piece of n bytes
 abbrev cellWidths : ℕ → List ℕ

@@ -14,7 +14,8 @@ use Rattle.machine.specs.Limits.{recCount, recBytes, cellBytes, mostCells, stor
 use Rattle.machine.specs.Codes.{kindWhole}
 use Rattle.machine.specs.Chains.{first, link, walk, chainRows}
 use Rattle.machine.specs.Counting.{occurs}
-use Rattle.machine.specs.Layout.{firstCellAt, recOff, cellOff, cellPlace, recPlace, freePlace, freeRow, recRow, cellRow, piecesRows, recAt, cellAt, cellOf, recOf, recChain, cellChain, readCell, readCells, readRec}
+use Rattle.machine.specs.Layout.{firstCellAt, recOff, cellOff, cellPlace, recPlace, freePlace, freeRow, recRow, cellRow, piecesRows, recAt, cellAt}
+use Rattle.machine.specs.Layout.{cellOf, recOf, recChain, cellChain, readCell, readCells, readRec}
 use Rattle.machine.specs.Sound.{piecePlaces, recShape, cellShape, freeShape}
 use Rattle.machine.specs.Valid.{CellSized, RecSized}
 use Rattle.machine_laws.specs.Tests.{all-parts}

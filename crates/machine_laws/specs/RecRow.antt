@@ -16,7 +16,9 @@ use Rattle.machine.specs.Limits.{recBytes}
 use Rattle.machine.specs.Values.{Cell, Rec}
 use Rattle.machine.specs.Rows.{join, pad, zeroFrom}
 use Rattle.machine.specs.Chains.{first, nextAt}
-use Rattle.machine.specs.Layout.{kindAt, replyAt, stateAt, timedOutAt, firstCellAt, topicSizeAt, slotsAt, idAt, sourceAt, destinationAt, totalAt, createdAt, endAt, topicAt, idWidth, addressWidth, numberWidth, cellPlace, recFront, recFields, recRow, recOf, labelOf}
+use Rattle.machine.specs.Layout.{kindAt, replyAt, stateAt, timedOutAt, firstCellAt, topicSizeAt, slotsAt, idAt, sourceAt, destinationAt, totalAt}
+use Rattle.machine.specs.Layout.{createdAt, endAt, topicAt, idWidth, addressWidth, numberWidth, cellPlace, recFront, recFields, recRow, recOf}
+use Rattle.machine.specs.Layout.{labelOf}
 use Rattle.machine.specs.Sound.{recShape}
 use Rattle.machine.specs.Valid.{LabelSized, CellSized, RecSized}
 use Rattle.octets.specs.ListsLaws.{_&_}

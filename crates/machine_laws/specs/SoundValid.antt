@@ -19,8 +19,10 @@ use Rattle.machine.specs.Rows.{Row, zeroFrom}
 use Rattle.machine.specs.Chains.{first, chainRows}
 use Rattle.machine.specs.Counting.{occurs, inside}
 use Rattle.machine.specs.Valid.{Once, RecSized, Valid}
-use Rattle.machine.specs.Layout.{freeAt, heldAt, wholeAt, freeCellsAt, formAt, form, countAt, roleAt, restAt, recPlace, headRow, headFields, recRow, piecesRows, encode, recAt, cellAt, recChain, cellChain, readRec, decode}
-use Rattle.machine.specs.Sound.{recFits, noRec, distinct, recPlaces, piecePlaces, cellPlaces, recShape, cellShape, freeShape, headTests, shapeTests, soundTests, sound}
+use Rattle.machine.specs.Layout.{freeAt, heldAt, wholeAt, freeCellsAt, formAt, form, countAt, roleAt, restAt, recPlace, headRow, headFields, recRow}
+use Rattle.machine.specs.Layout.{piecesRows, encode, recAt, cellAt, recChain, cellChain, readRec, decode}
+use Rattle.machine.specs.Sound.{recFits, noRec, distinct, recPlaces, piecePlaces, cellPlaces, recShape, cellShape, freeShape, headTests, shapeTests}
+use Rattle.machine.specs.Sound.{soundTests, sound}
 use Rattle.machine_laws.specs.Tests.{every-true, all-parts}
 use Rattle.machine_laws.specs.Fields.{gets, gets-is, zeros-part}
 use Rattle.machine_laws.specs.Counting.{inside-is, once-is, occurs-append}

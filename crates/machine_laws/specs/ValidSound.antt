@@ -16,7 +16,9 @@ use Rattle.machine.specs.Values.{Cell, Rec, Store}
 use Rattle.machine.specs.Tests.{every}
 use Rattle.machine.specs.Rows.{zeroFrom}
 use Rattle.machine.specs.Chains.{first, chainRows}
-use Rattle.machine.specs.Layout.{heldAt, wholeAt, formAt, form, countAt, roleAt, restAt, firstCellAt, cellPlace, recPlace, freePlace, headFields, freeRow, recRow, cellRow, piecesRows, encode, recAt, cellAt, cellOf, recOf, recChain, readCell, readCells, readRec, decode}
+use Rattle.machine.specs.Layout.{heldAt, wholeAt, formAt, form, countAt, roleAt, restAt, firstCellAt, cellPlace, recPlace, freePlace, headFields}
+use Rattle.machine.specs.Layout.{freeRow, recRow, cellRow, piecesRows, encode, recAt, cellAt, cellOf, recOf, recChain, readCell, readCells, readRec}
+use Rattle.machine.specs.Layout.{decode}
 use Rattle.machine.specs.Sound.{headTests, shapeTests, recFits, recPlaces, piecePlaces, cellPlaces, recShape, cellShape, freeShape, soundTests, sound}
 use Rattle.machine.specs.Valid.{CellSized, RecSized, Valid}
 use Rattle.machine_laws.specs.Tests.{true-every, all-append}

@@ -15,7 +15,8 @@ use Rattle.machine.specs.Codes.{heldKind, kindWhole}
 use Rattle.machine.specs.Values.{Rec, Store}
 use Rattle.machine.specs.Chains.{first, link, walk, chainRows, nextAt}
 use Rattle.machine.specs.Counting.{occurs, inside}
-use Rattle.machine.specs.Layout.{freeAt, heldAt, wholeAt, freeCellsAt, cellPlace, recPlace, freePlace, headRow, freeRow, recRow, cellRow, piecesRows, recAt, cellAt, recChain, cellChain}
+use Rattle.machine.specs.Layout.{freeAt, heldAt, wholeAt, freeCellsAt, cellPlace, recPlace, freePlace, headRow, freeRow, recRow, cellRow, piecesRows}
+use Rattle.machine.specs.Layout.{recAt, cellAt, recChain, cellChain}
 use Rattle.machine.specs.Sound.{piecePlaces}
 use Rattle.machine.specs.Valid.{CellSized, RecSized, Valid}
 use Rattle.machine_laws.specs.Counting.{Few, occurs-append}

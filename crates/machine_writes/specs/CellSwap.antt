@@ -73,7 +73,8 @@ module _ (role : ℕ) (s : Store) (v : Valid role s) (b : List ℕ) (rep : Rep s
   rows : recRows t ≡ recRows s
   rows =
       recs-alike s l r (cl ++ (c′ ∷ cm)) m starts
-      ∙ ap (λ (x : List Rec). chainRows freePlace (freeRow recBytes) (s .free) ++ (chainRows recPlace (recRow (heldKind (s .setup .role))) x ++ chainRows recPlace (recRow kindWhole) (s .whole))) (sym is)
+      ∙ ap (λ (x : List Rec). chainRows freePlace (freeRow recBytes) (s .free)
+      ++ (chainRows recPlace (recRow (heldKind (s .setup .role))) x ++ chainRows recPlace (recRow kindWhole) (s .whole))) (sym is)
 
   recs : Held (recAt d) (recRows t)
   recs =
@@ -99,7 +100,8 @@ module _ (role : ℕ) (s : Store) (v : Valid role s) (b : List ℕ) (rep : Rep s
   cell-rep = record {
     size = w .long ∙ rep .size;
     head = cell-leaves-head (c .place) (cellRow (first (map cellPlace cm)) c′) b d w ∙ rep .head
-        ∙ ap (λ (x : List ℕ). pad headBytes (first (s .free) ∷ first x ∷ first (map recPlace (s .whole)) ∷ first (s .freeCells) ∷ form ∷ s .setup .cells ∷ s .setup .role ∷ [])) (ap (map recPlace) is ∙ same l);
+        ∙ ap (λ (x : List ℕ). pad headBytes (first (s .free) ∷ first x ∷ first (map recPlace (s .whole)) ∷ first (s .freeCells) ∷ form
+        ∷ s .setup .cells ∷ s .setup .role ∷ [])) (ap (map recPlace) is ∙ same l);
     recs = recs;
     cells = cells;
   }

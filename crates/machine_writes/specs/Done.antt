@@ -18,7 +18,8 @@ use Rattle.machine.specs.Rows.{Row, pad}
 use Rattle.machine_laws.specs.Rows.{places, Held, held-left, held-right, held-join, held-same}
 use Rattle.machine.specs.Chains.{first, chainRows}
 use Rattle.machine.specs.Counting.{occurs, inside}
-use Rattle.machine.specs.Layout.{form, heldAt, wholeAt, recPlace, cellPlace, freePlace, freeRow, recRow, cellRow, piecesRows, headRow, recAt, cellAt, recOff, cellOff}
+use Rattle.machine.specs.Layout.{form, heldAt, wholeAt, recPlace, cellPlace, freePlace, freeRow, recRow, cellRow, piecesRows, headRow, recAt, cellAt}
+use Rattle.machine.specs.Layout.{recOff, cellOff}
 use Rattle.machine.specs.Valid.{Valid}
 use Rattle.machine_laws.specs.Counting.{self, occurs-append, few-inside, one-inside}
 use Rattle.machine_laws.specs.Chains.{lead, rowsTo, chain-places}
@@ -161,7 +162,8 @@ module _ (role : ℕ) (s : Store) (v : Valid role s) (b : List ℕ) (rep : Rep s
       sym (append-assoc (l ++ m) (s .whole) (r ∷ [])) ∙ ap (λ (y : List Rec). y ++ (r ∷ [])) (append-assoc l m (s .whole)) in
       subst (λ (y : List Rec). Held (cellAt b) (piecesRows y)) (sym e)
       (subst (Held (cellAt b)) (sym (rows-append (l ++ (m ++ s .whole)) (r ∷ [])))
-      (held-join (cellAt b) (piecesRows (l ++ (m ++ s .whole))) (piecesRows (r ∷ [])) (held-around (cellAt b) l r (m ++ s .whole) all) (held-join (cellAt b) (chainRows cellPlace cellRow (r .cells)) [] mine tt)))
+      (held-join (cellAt b) (piecesRows (l ++ (m ++ s .whole))) (piecesRows (r ∷ [])) (held-around (cellAt b) l r (m ++ s .whole) all)
+      (held-join (cellAt b) (chainRows cellPlace cellRow (r .cells)) [] mine tt)))
 
   heads : put (put (headRow s) heldAt (first (map recPlace (l ++ m)) ∷ [])) wholeAt (lead p (map recPlace (s .whole)) ∷ []) ≡ headRow (doneStore s l r m)
   unfolding put

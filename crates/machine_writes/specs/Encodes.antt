@@ -67,7 +67,8 @@ module _ (role : ℕ) (b : List ℕ) (bytes : Bytes b) (ok : sound role b ≡ tr
     pub done-encode : role ≡ roleReceive → isComplete r ≡ true → doneBytes s b l r m ≡ encode (doneAt (some r) s)
     unfolding doneAt
     done-encode q c =
-        let t : doneAt (some r) s ≡ doneStore s l r m = ap (λ (h : List Rec). record { setup = s .setup; free = s .free; held = h; whole = s .whole ++ (r ∷ []); freeCells = s .freeCells }) (around k r e .removed) in
+        let t : doneAt (some r) s ≡ doneStore s l r m =
+        ap (λ (h : List Rec). record { setup = s .setup; free = s .free; held = h; whole = s .whole ++ (r ∷ []); freeCells = s .freeCells }) (around k r e .removed) in
         let v : Valid role (doneAt (some r) s) = subst (λ (x : ℕ). Valid x (doneAt (some r) s)) (sym q) (done-valid k r s e c (subst (λ (x : ℕ). Valid x s) q valid)) in
         rep-encode role (doneAt (some r) s) v (doneBytes s b l r m) (subst (λ (x : Store). Rep x (doneBytes s b l r m)) (sym t) (done-rep role s valid b rep l r m (around k r e .is)))
 

@@ -79,7 +79,8 @@ module _ (C : ℕ) (b ps FC : List ℕ) (lines : List Row) (size : length b ≡ 
 
   pub freed-chain : Held (cellAt done) (chainRows freePlace (freeRow cellBytes) (ps ++ FC))
   freed-chain =
-      let e = chain-rows freePlace (freeRow cellBytes) (ps ++ FC) ∙ rows-append freePlace (freeRow cellBytes) 0 ps FC ∙ ap (λ (y : ℕ). rowsTo freePlace (freeRow cellBytes) y ps ++ rowsTo freePlace (freeRow cellBytes) 0 FC) (firsts FC) in
+      let e = chain-rows freePlace (freeRow cellBytes) (ps ++ FC) ∙ rows-append freePlace (freeRow cellBytes) 0 ps FC
+      ∙ ap (λ (y : ℕ). rowsTo freePlace (freeRow cellBytes) y ps ++ rowsTo freePlace (freeRow cellBytes) 0 FC) (firsts FC) in
       subst (Held (cellAt done)) (sym e)
       (held-join (cellAt done) (rowsTo freePlace (freeRow cellBytes) x ps) (rowsTo freePlace (freeRow cellBytes) 0 FC)
       (held-same (cellAt b1) (cellAt done) (rowsTo freePlace (freeRow cellBytes) x ps) (λ k q. same1 k)

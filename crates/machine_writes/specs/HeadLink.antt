@@ -65,6 +65,7 @@ module _ {A : Type 0} (place : A → ℕ) (row : ℕ → A → List ℕ) (tail :
         long = w .long;
         chain = relink place row start size tail parts b y h x (a ∷ l) some p u held;
         rows = λ lines z n q. link-stay place row start size tail parts b y h a l lines some (last .0) (last .1) z (n k (last-in place row start size a l)) q;
-        head = w .before 0 headBytes behind ∙ sym (put-same (part b 0 headBytes) h (place a) (omega (arith, length-part b 0 headBytes g)) (getD-part b 0 headBytes h i ∙ ap (λ (o : ℕ). getD b o 0) (zero-add h) ∙ e));
+        head = w .before 0 headBytes behind ∙ sym (put-same (part b 0 headBytes) h (place a) (omega (arith, length-part b 0 headBytes g))
+            (getD-part b 0 headBytes h i ∙ ap (λ (o : ℕ). getD b o 0) (zero-add h) ∙ e));
         beyond = λ o n q j. w .behind o n (q k (last-in place row start size a l));
       }

@@ -13,7 +13,8 @@ use Rattle.machine.specs.Limits.{recCount, recBytes, cellBytes}
 use Rattle.machine.specs.Codes.{heldKind, kindWhole}
 use Rattle.machine.specs.Values.{Cell, Rec, Store}
 use Rattle.machine.specs.Chains.{first, nextAt}
-use Rattle.machine.specs.Layout.{freeAt, heldAt, wholeAt, freeCellsAt, countAt, firstCellAt, sizeAt, sizeWidth, recOff, cellOff, cellPlace, recPlace, freeRow, recRow, cellRow, recRows, cellRows, recAt, cellAt, numAt, decode}
+use Rattle.machine.specs.Layout.{freeAt, heldAt, wholeAt, freeCellsAt, countAt, firstCellAt, sizeAt, sizeWidth, recOff, cellOff, cellPlace, recPlace}
+use Rattle.machine.specs.Layout.{freeRow, recRow, cellRow, recRows, cellRows, recAt, cellAt, numAt, decode}
 use Rattle.machine.specs.Sound.{recPlaces, piecePlaces, cellPlaces, cellTests, sound}
 use Rattle.machine.specs.Valid.{CellSized, RecSized, Valid}
 use Rattle.packet.specs.Frame.{largestPiece}
@@ -123,11 +124,25 @@ module _ (role : ℕ) (s : Store) (v : Valid role s) (b : List ℕ) (rep : Rep s
         some = omega (arith, counts, v .some);
         most = omega (arith, counts, v .most);
         long = omega (arith, counts, rep .size);
-        free = head-link freeAt (omega arith) (s .free) (head-byte role s v b rep freeAt (omega arith)) (all-left (Low recCount) (s .free) (map recPlace (s .held) ++ map recPlace (s .whole)) recs-low);
-        held = head-link heldAt (omega arith) (map recPlace (s .held)) (head-byte role s v b rep heldAt (omega arith)) (all-left (Low recCount) (map recPlace (s .held)) (map recPlace (s .whole)) rest);
-        whole = head-link wholeAt (omega arith) (map recPlace (s .whole)) (head-byte role s v b rep wholeAt (omega arith)) (all-right (Low recCount) (map recPlace (s .held)) (map recPlace (s .whole)) rest);
-        freeCells = omega (arith, counts, head-byte role s v b rep freeCellsAt (omega arith), first-has (Low C) (s .freeCells) (omega arith) (all-left (Low C) (s .freeCells) (piecePlaces (s .held ++ s .whole)) cells-low));
-        recs = λ k h g. record { inside = omega arith; small = omega (arith, rec-at k h g .0, first-byte b (recOff k) recBytes (omega arith)); noFree = λ q. omega arith; noFirst = λ j q. apart k j q };
+        free = head-link freeAt (omega arith) (s .free) (head-byte role s v b rep freeAt (omega arith))
+            (all-left (Low recCount) (s .free) (map recPlace (s .held) ++ map recPlace (s .whole)) recs-low);
+        held = head-link heldAt (omega arith) (map recPlace (s .held)) (head-byte role s v b rep heldAt (omega arith))
+            (all-left (Low recCount) (map recPlace (s .held)) (map recPlace (s .whole)) rest);
+        whole = head-link wholeAt (omega arith) (map recPlace (s .whole)) (head-byte role s v b rep wholeAt (omega arith))
+            (all-right (Low recCount) (map recPlace (s .held)) (map recPlace (s .whole)) rest);
+        freeCells = omega (
+          arith,
+          counts,
+          head-byte role s v b rep freeCellsAt (omega arith),
+          first-has (Low C) (s .freeCells) (omega arith)
+              (all-left (Low C) (s .freeCells) (piecePlaces (s .held ++ s .whole)) cells-low),
+        );
+        recs = λ k h g. record {
+          inside = omega arith;
+          small = omega (arith, rec-at k h g .0, first-byte b (recOff k) recBytes (omega arith));
+          noFree = λ q. omega arith;
+          noFirst = λ j q. apart k j q;
+        };
         firsts = λ k h g. omega (arith, counts, rec-at k h g .1, getD-part b (recOff k) recBytes firstCellAt (omega arith));
         cells = λ k h g. omega (arith, counts, cell-at k h (omega (arith, counts)) .0, first-byte b (cellOff k) cellBytes (omega arith));
         sizes = λ k h g. omega (arith, cell-at k h (omega (arith, counts)) .1, ap (num sizeWidth) (part-part b (cellOff k) cellBytes sizeAt sizeWidth (omega arith)));

@@ -47,7 +47,8 @@ rep-ready s r b e rep = record {
   size = rep .size;
   head = rep .head;
   recs = rep .recs;
-  cells = subst (λ (l : List Cell). Held (cellAt b) (chainRows freePlace (freeRow cellBytes) (s .freeCells) ++ (chainRows cellPlace cellRow l ++ piecesRows (s .held ++ s .whole)))) (sym e) (rep .cells);
+  cells = subst (λ (l : List Cell). Held (cellAt b) (chainRows freePlace (freeRow cellBytes) (s .freeCells) ++
+      (chainRows cellPlace cellRow l ++ piecesRows (s .held ++ s .whole)))) (sym e) (rep .cells);
 }
 
 module _ (role : ℕ) (s : Store) (v : Valid role s) (b : List ℕ) (cells : List ℕ) (p : ℕ) (ps : List ℕ) (free : s .free ≡ p ∷ ps) (r : Rec) (rep : Ready s cells r b)
@@ -118,8 +119,11 @@ module _ (role : ℕ) (s : Store) (v : Valid role s) (b : List ℕ) (cells : Lis
         head = head-write 0 (first ps ∷ p ∷ []) b1 (omega arith) (omega (arith, wrote .long, rep .size))
             ∙ ap (λ (l : List ℕ). put l 0 (first ps ∷ p ∷ [])) (rec-leaves-head p row b b1 wrote ∙ rep .head) ∙ heads;
         recs = held-recs opened (recAt openBytes)
-            (stay freePlace (freeRow recBytes) ps (omega (arith, map-ps 0, counted 0)) (omega (arith, map-ps p, counted p, self p, one-le (inside recCount p))) free-rows)
-            (fresh-row, stay recPlace (recRow (heldKind (s .setup .role))) (s .held) (omega (arith, counted 0)) (omega (arith, counted p, self p, one-le (inside recCount p))) (held-held s (recAt b) (rep .recs)))
+            (stay freePlace (freeRow recBytes) ps (omega (arith, map-ps 0, counted 0)) (omega (arith, map-ps p, counted p, self p, one-le (inside recCount p))) free-rows) (
+              fresh-row,
+              stay recPlace (recRow (heldKind (s .setup .role))) (s .held) (omega (arith, counted 0))
+                  (omega (arith, counted p, self p, one-le (inside recCount p))) (held-held s (recAt b) (rep .recs)),
+            )
             (stay recPlace (recRow kindWhole) (s .whole) (omega (arith, counted 0)) (omega (arith, counted p, self p, one-le (inside recCount p))) (held-whole s (recAt b) (rep .recs)));
         cells = held-same (cellAt b) (cellAt openBytes) (cellRows opened) (λ k q. cell-same k) (rep .cells);
       }

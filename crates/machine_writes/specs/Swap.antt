@@ -15,7 +15,8 @@ use Rattle.machine.specs.Rows.{Row, pad}
 use Rattle.machine_laws.specs.Rows.{places, Held, held-right, held-same}
 use Rattle.machine.specs.Chains.{first, chainRows}
 use Rattle.machine.specs.Counting.{occurs, inside}
-use Rattle.machine.specs.Layout.{form, recPlace, cellPlace, freePlace, freeRow, freeCellsAt, recRow, cellRow, recRows, cellRows, piecesRows, headRow, recAt, cellAt}
+use Rattle.machine.specs.Layout.{form, recPlace, cellPlace, freePlace, freeRow, freeCellsAt, recRow, cellRow, recRows, cellRows, piecesRows, headRow}
+use Rattle.machine.specs.Layout.{recAt, cellAt}
 use Rattle.machine.specs.Sound.{piecePlaces}
 use Rattle.machine.specs.Valid.{Valid}
 use Rattle.machine.specs.Receive.{freedCells}
@@ -44,7 +45,8 @@ module _ (role : ℕ) (s : Store) (v : Valid role s) (b : List ℕ) (rep : Rep s
   -- the record's row as it is
   pub row-is : recAt b (r .place) ≡ recRow kind next r
   row-is =
-      let all = subst (Held (recAt b)) (chain-rows recPlace (recRow kind) (s .held) ∙ ap (rowsTo recPlace (recRow kind) 0) is ∙ rows-append recPlace (recRow kind) 0 l (r ∷ m)) (held-held s (recAt b) (rep .recs)) in
+      let all = subst (Held (recAt b)) (chain-rows recPlace (recRow kind) (s .held) ∙ ap (rowsTo recPlace (recRow kind) 0) is
+      ∙ rows-append recPlace (recRow kind) 0 l (r ∷ m)) (held-held s (recAt b) (rep .recs)) in
       held-right (recAt b) (rowsTo recPlace (recRow kind) (r .place) l) (rowsTo recPlace (recRow kind) 0 (r ∷ m)) all .0 ∙ ap (λ (x : ℕ). recRow kind x r) (firsts m)
     where
       firsts : (n : List Rec) → lead 0 (map recPlace n) ≡ first (map recPlace n)
@@ -85,7 +87,8 @@ module _ (role : ℕ) (s : Store) (v : Valid role s) (b : List ℕ) (rep : Rep s
       head = swap-head;
       recs = swap-recs;
       cells = held-same (cellAt b) (cellAt c) (cellRows (heldStore s (l ++ (r′ ∷ m)) (s .freeCells))) (λ k q. swap-cells k)
-          (subst (λ (x : List Row). Held (cellAt b) (chainRows freePlace (freeRow cellBytes) (s .freeCells) ++ x)) (pieces l) (subst (λ (x : List Rec). Held (cellAt b) (chainRows freePlace (freeRow cellBytes) (s .freeCells) ++ piecesRows (x ++ s .whole))) is (rep .cells)));
+          (subst (λ (x : List Row). Held (cellAt b) (chainRows freePlace (freeRow cellBytes) (s .freeCells) ++ x)) (pieces l)
+          (subst (λ (x : List Rec). Held (cellAt b) (chainRows freePlace (freeRow cellBytes) (s .freeCells) ++ piecesRows (x ++ s .whole))) is (rep .cells)));
     }
       where
         pieces : (l : List Rec) → piecesRows ((l ++ (r ∷ m)) ++ s .whole) ≡ piecesRows ((l ++ (r′ ∷ m)) ++ s .whole)

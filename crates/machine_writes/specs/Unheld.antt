@@ -122,7 +122,8 @@ module _ (role : ℕ) (s : Store) (v : Valid role s) (b : List ℕ) (rep : Rep s
 
   pub unheld-chain : Held (recAt unheld) (chainRows recPlace (recRow kind) (l ++ m))
   unheld-chain =
-      let e = chain-rows recPlace (recRow kind) (l ++ m) ∙ rows-append recPlace (recRow kind) 0 l m ∙ ap (λ (x : ℕ). rowsTo recPlace (recRow kind) x l ++ rowsTo recPlace (recRow kind) 0 m) (firsts m) in
+      let e = chain-rows recPlace (recRow kind) (l ++ m) ∙ rows-append recPlace (recRow kind) 0 l m
+      ∙ ap (λ (x : ℕ). rowsTo recPlace (recRow kind) x l ++ rowsTo recPlace (recRow kind) 0 m) (firsts m) in
       subst (Held (recAt unheld)) (sym e)
       (held-join (recAt unheld) (rowsTo recPlace (recRow kind) next l) (rowsTo recPlace (recRow kind) 0 m) (led .chain)
       (stays recPlace (recRow kind) 0 m (λ k. omega (arith, counted k)) (back .1)))

@@ -1,62 +1,37 @@
--- The ways out of a packet. Assumes nothing.
+-- What a packet answers once its kind's step is done: the row from its kind on gives the number. Assumes nothing.
 use Prim.Native.Nat.{ℕ}
-use mathlib.Core.Path.{_≡_, sym, ap, _∙_}
+use mathlib.Core.Path.{_≡_, refl, sym, ap, _∙_}
 use mathlib.Core.Bool.{true, false}
 use mathlib.Core.List.{List}
-use lib.ListN.{length, drop}
+use lib.ListN.{length}
 use lib.Dec.{eqb}
 use borrow.Author.Tests.{eq-eqb, ne-eqb}
 use Rattle.octets.specs.Octets.{put}
 use Rattle.machine.specs.Layout.{decode, encode}
 use Rattle.machine.specs.Refusals.{refusal}
-use Rattle.machine.specs.Packet.{Packet, kind, kindRow, recvStep, sendStep, kindOut, kindWake, packetRow, packetAt, packetAnswer}
+use Rattle.machine.specs.Packet.{Packet, kind, kindRow, recvStep, sendStep, kindOut, kindWake, packetAt}
 use Rattle.message.specs.Both.{Both, bothOf}
 
--- a packet, both stores and the run buffer
-pub record Call : Type 0 where
-  pub packet : Packet
-  pub recv : List ℕ
-  pub send : List ℕ
-  pub out : List ℕ
+module _ (p : Packet) (recv send out : List ℕ) {n : ℕ} {b c : List ℕ}
+    (s : record { number = n; recv = b; send = c } ≡ bothOf (kind p) p recv send) where
+  abbrev kindNumber : ℕ
+  kindNumber = refusal (kindRow (kind p) p (decode recv) (decode send))
 
--- the number that its row gives, and the row from its n-th test on
-abbrev pub numberOf : Call → ℕ
-numberOf q = refusal (packetRow (q .packet) (q .recv) (q .send) (q .out))
+  number-is : n ≡ kindNumber
+  number-is = ap (λ (x : Both). x .number) s
 
-abbrev pub From : ℕ → Call → Type 0
-From n q = numberOf q ≡ refusal (drop n (packetRow (q .packet) (q .recv) (q .send) (q .out)))
+  -- its refusals change nothing
+  pub step-out : (n ≡ 0 → ⊥) → record { number = n; run = 0; wake = 0; recv = b; send = c; out = out } ≡ packetAt kindNumber p recv send out
+  step-out z =
+      let f : eqb kindNumber 0 ≡ false = ne-eqb _ 0 (λ e. z (number-is ∙ e)) in
+      let kept : bothOf (kind p) p recv send ≡ record { number = kindNumber; recv = recv; send = send } = rw f refl in
+      rw f (ap (λ (x : Both). record { number = x .number; run = 0; wake = 0; recv = x .recv; send = x .send; out = out }) (s ∙ kept))
 
-module _ (q : Call) where
-  abbrev p : Packet
-  p = q .packet
-
-  -- a refusal, once its number is known
-  pub refused : {n m k w : ℕ} → n ≡ numberOf q → (n ≡ 0 → ⊥) → m ≡ n → k ≡ 0 → w ≡ 0
-      → record { number = m; run = k; wake = w; recv = q .recv; send = q .send; out = q .out } ≡ packetAnswer p (q .recv) (q .send) (q .out)
-  refused e z x y v =
-      (λ i. record { number = (x ∙ e) i; run = y i; wake = v i; recv = q .recv; send = q .send; out = q .out })
-      ∙ sym (rw (ne-eqb (numberOf q) 0 (λ f. z (e ∙ f))))
-
-  -- the kind's own row, and what its step left
-  module _ (at : numberOf q ≡ refusal (kindRow (kind p) p (decode (q .recv)) (decode (q .send)))) {n : ℕ} {b c : List ℕ}
-      (s : record { number = n; recv = b; send = c } ≡ bothOf (kind p) p (q .recv) (q .send)) where
-    is : n ≡ numberOf q
-    is = ap (λ (x : Both). x .number) s ∙ sym at
-
-    -- its refusals change nothing
-    pub step-out : {m k w : ℕ} → (n ≡ 0 → ⊥) → m ≡ n → k ≡ 0 → w ≡ 0
-        → record { number = m; run = k; wake = w; recv = b; send = c; out = q .out } ≡ packetAnswer p (q .recv) (q .send) (q .out)
-    step-out {m} {k} {w} z x y v =
-        let f : eqb (refusal (kindRow (kind p) p (decode (q .recv)) (decode (q .send)))) 0 ≡ false = ne-eqb _ 0 (λ f. z (is ∙ at ∙ f)) in
-        let rb : b ≡ q .recv = ap (λ (x : Both). x .recv) s ∙ rw f in
-        let rc : c ≡ q .send = ap (λ (x : Both). x .send) s ∙ rw f in
-        (λ i. record { number = m; run = k; wake = w; recv = rb i; send = rc i; out = q .out }) ∙ refused is z x y v
-
-    pub done-out : {k w : ℕ} {out : List ℕ} → n ≡ 0 → k ≡ length (kindOut (kind p) p) → w ≡ kindWake (kind p) → out ≡ put (q .out) 0 (kindOut (kind p) p)
-        → record { number = 0; run = k; wake = w; recv = b; send = c; out = out } ≡ packetAnswer p (q .recv) (q .send) (q .out)
-    done-out z x y v =
-        let f : eqb (refusal (kindRow (kind p) p (decode (q .recv)) (decode (q .send)))) 0 ≡ true = eq-eqb _ 0 (sym at ∙ sym is ∙ z) in
-        let rb : b ≡ encode (recvStep (kind p) p (decode (q .recv))) = ap (λ (x : Both). x .recv) s ∙ rw f in
-        let rc : c ≡ encode (sendStep (kind p) p (decode (q .send))) = ap (λ (x : Both). x .send) s ∙ rw f in
-        (λ i. record { number = 0; run = x i; wake = y i; recv = rb i; send = rc i; out = v i })
-        ∙ ap (λ (m : ℕ). packetAt m p (q .recv) (q .send) (q .out)) (sym z ∙ is)
+  -- else the steps of its kind, its reply and its wake mark
+  pub done-out : {k w : ℕ} {o : List ℕ} → n ≡ 0 → k ≡ length (kindOut (kind p) p) → w ≡ kindWake (kind p) → o ≡ put out 0 (kindOut (kind p) p)
+      → record { number = 0; run = k; wake = w; recv = b; send = c; out = o } ≡ packetAt kindNumber p recv send out
+  done-out z x y v =
+      let f : eqb kindNumber 0 ≡ true = eq-eqb _ 0 (sym number-is ∙ z) in
+      let rb : b ≡ encode (recvStep (kind p) p (decode recv)) = ap (λ (t : Both). t .recv) s ∙ rw f refl in
+      let rc : c ≡ encode (sendStep (kind p) p (decode send)) = ap (λ (t : Both). t .send) s ∙ rw f refl in
+      rw (f, rb, rc, x, y, v) refl

@@ -1,4 +1,2 @@
-pub mod Sent
-pub mod Pushes
 pub mod Going
 pub mod Packets

@@ -1,27 +1,16 @@
--- The packets of a record: what their writers ask of the fields that are read from its row, and how long they are. Assumes nothing.
-use Prim.Native.Nat.{ℕ, _+_, _≤_}
+-- How long the packets of a record are. Assumes nothing.
+use Prim.Native.Nat.{ℕ, _+_}
 use mathlib.Core.Path.{_≡_, ap, _∙_}
 use mathlib.Core.List.{List}
 use lib.ListN.{length}
 use Rattle.packet.specs.LengthsLaws.{length-entry, length-header, length-init, length-done}
-use Rattle.packet.specs.Room.{Room}
 use Rattle.blake3.specs.Laws.{length-blake3}
 use Rattle.machine.specs.Values.{Rec}
-use Rattle.machine.specs.Layout.{labelOf, recOf}
 use Rattle.machine.specs.Send.{sentBy, initOut, doneOut, abortedOut}
-use Rattle.records.specs.HeldAt.{rowIn, recIn}
+use Rattle.records.specs.HeldAt.{recIn}
 use Rattle.outbox.specs.Leaves.{Here}
 
 module _ {b : List ℕ} {link : ℕ} (h : Here b link) where
-  pub room : {run from to : List ℕ} {n : ℕ} → from ≡ labelOf (rowIn b link) .source → to ≡ labelOf (rowIn b link) .destination
-      → 0 + 34 + n ≤ length run → Room run 0 from to n
-  unfolding recOf
-  room f t l = record { source = ap length f ∙ h .sized .source .0; target = ap length t ∙ h .sized .destination .0; fits = l }
-
-  pub id-long : {id : List ℕ} → id ≡ labelOf (rowIn b link) .id → length id ≡ 8
-  unfolding recOf
-  id-long e = ap length e ∙ h .sized .id .0
-
   abbrev r : Rec
   r = recIn b link
 

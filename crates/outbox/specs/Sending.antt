@@ -5,7 +5,9 @@ use mathlib.Core.Bool.{cond}
 use mathlib.Core.List.{List, [], map}
 use lib.ListN.{length, getD}
 use Rattle.octets.specs.Octets.{part, put}
+use Rattle.packet.specs.Frame.{chunkPieceAt}
 use Rattle.packet.specs.Outgoing.{entry, chunkPacket}
+use Rattle.packet.specs.Room.{entryFront}
 use Rattle.machine.specs.Limits.{cutBy}
 use Rattle.machine.specs.Codes.{pieceSent}
 use Rattle.machine.specs.Values.{Cell, Rec, Store}
@@ -41,13 +43,17 @@ stampedIn clock b k = cond (due clock (readCell b k)) (remarked b k clock pieceS
 
 -- ---- what is asked and given
 
+-- what stands before a piece in a run
+abbrev pub chunkFront : ℕ
+chunkFront = entryFront + chunkPieceAt
+
 -- a cell of bytes with links in range, and room for its piece as a chunk
 pub record Turn (b names : List ℕ) (k at room : ℕ) : Type 0 where
   pub links : Links b
   pub some : 1 ≤ k
   pub most : k ≤ getD b countAt 0
   pub named : length names ≡ namesWidth
-  pub fits : at + 70 + length (readCell b k .bytes) ≤ room
+  pub fits : at + chunkFront + length (readCell b k .bytes) ≤ room
 
 -- the piece of the cell at place k was sent if it was due: the run goes on at r
 pub record Sends (clock : ℕ) (names : List ℕ) (k at : ℕ) (b run : List ℕ) (r : ℕ) (b′ run′ : List ℕ) : Type 0 where

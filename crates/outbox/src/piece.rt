@@ -60,14 +60,17 @@ fn put_piece(send: &[u8], place: usize, names: &[u8], run: &mut [u8], at: usize)
     let size = get16(send, row + Cell::SIZE) as usize;
     let start = row + Cell::PIECE;
     let end = start + size;
+    let position = run::Position {
+        index: index,
+        offset: CUT * index,
+    };
     run::put_chunk(
         run,
         at,
         &names[SOURCE..DESTINATION],
         &names[DESTINATION..NAMES],
         &names[0..SOURCE],
-        index,
-        CUT * index,
+        position,
         &send[start..end],
     );
     at + run::PACKET + MessageChunk::PIECE + size

@@ -48,40 +48,80 @@ ackKind f = cond (has f initFlag) AckInit (cond (has f chunkFlag) AckChunk (cond
 unfoldable pub kindOf : ℕ → Kind
 kindOf f = cond (has f ackFlag) (ackKind f) (sentKind f)
 
--- "Bytes 0–7 id, 8 flags"
+-- the bytes of an id and of an address
+abbrev pub idSize : ℕ
+idSize = 8
+
+abbrev pub addressSize : ℕ
+addressSize = 16
+
+-- "Bytes 0–7 id, 8 flags": where each part starts; "Body from byte 12"
+abbrev pub flagsAt : ℕ
+flagsAt = 8
+
+abbrev pub afterFlagsAt : ℕ
+afterFlagsAt = 9
+
+abbrev pub bodyAt : ℕ
+bodyAt = 12
+
 abbrev pub idOf : List ℕ → List ℕ
-idOf f = part f 0 8
+idOf f = part f 0 idSize
 
 abbrev pub flagsOf : List ℕ → ℕ
-flagsOf f = getD f 8 0
+flagsOf f = getD f flagsAt 0
 
--- "Body from byte 12: init is length (8), topic length (1), topic"
+-- "init is length (8), topic length (1), topic"
+abbrev pub initTopicSizeAt : ℕ
+initTopicSizeAt = 20
+
+abbrev pub initTopicAt : ℕ
+initTopicAt = 21
+
 abbrev pub initLength : List ℕ → ℕ
-initLength f = num 8 (part f 12 8)
+initLength f = num 8 (part f bodyAt 8)
 
 abbrev pub initTopic : List ℕ → List ℕ
-initTopic f = part f 21 (getD f 20 0)
+initTopic f = part f initTopicAt (getD f initTopicSizeAt 0)
 
 -- "chunk is index (8), offset (8), size (8), data"
+abbrev pub chunkOffsetAt : ℕ
+chunkOffsetAt = 20
+
+abbrev pub chunkSizeAt : ℕ
+chunkSizeAt = 28
+
+abbrev pub chunkPieceAt : ℕ
+chunkPieceAt = 36
+
 abbrev pub chunkIndex : List ℕ → ℕ
-chunkIndex f = num 8 (part f 12 8)
+chunkIndex f = num 8 (part f bodyAt 8)
 
 abbrev pub chunkOffset : List ℕ → ℕ
-chunkOffset f = num 8 (part f 20 8)
+chunkOffset f = num 8 (part f chunkOffsetAt 8)
 
 -- "Piece size is the smaller of the field and 1,364"
 abbrev pub largestPiece : ℕ
 largestPiece = 1364
 
 abbrev pub chunkSize : List ℕ → ℕ
-chunkSize f = min (num 8 (part f 28 8)) largestPiece
+chunkSize f = min (num 8 (part f chunkSizeAt 8)) largestPiece
 
 abbrev pub piece : List ℕ → List ℕ
-piece f = part f 36 (chunkSize f)
+piece f = part f chunkPieceAt (chunkSize f)
 
 -- "done is count (8), sum (32)"
+abbrev pub doneSumAt : ℕ
+doneSumAt = 20
+
+abbrev pub sumSize : ℕ
+sumSize = 32
+
+abbrev pub doneEnd : ℕ
+doneEnd = 52
+
 abbrev pub doneCount : List ℕ → ℕ
-doneCount f = num 8 (part f 12 8)
+doneCount f = num 8 (part f bodyAt 8)
 
 abbrev pub doneSum : List ℕ → List ℕ
-doneSum f = part f 20 32
+doneSum f = part f doneSumAt sumSize

@@ -2,9 +2,10 @@
 use mathlib.Core.Path.{_≡_}
 use lib.ListN.{length}
 use Rattle.octets.specs.Octets.{Bytes}
+use Rattle.packet.specs.Frame.{idSize, addressSize}
 use Rattle.packet.specs.declared.label.Label.{Label}
 
 pub record Named (l : Label) : Type 0 where
-  pub id : (length (l .id) ≡ 8) × Bytes (l .id)
-  pub source : (length (l .source) ≡ 16) × Bytes (l .source)
-  pub destination : (length (l .destination) ≡ 16) × Bytes (l .destination)
+  pub id : (length (l .id) ≡ idSize) × Bytes (l .id)
+  pub source : (length (l .source) ≡ addressSize) × Bytes (l .source)
+  pub destination : (length (l .destination) ≡ addressSize) × Bytes (l .destination)

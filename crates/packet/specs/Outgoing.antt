@@ -5,7 +5,8 @@ use mathlib.Core.List.{List, [], _∷_, _++_}
 use lib.ListN.{length}
 use lib.Bits.{bitOr}
 use Rattle.octets.specs.Octets.{part, be}
-use Rattle.packet.specs.Frame.{flagsOf, initFlag, chunkFlag, doneFlag, abortedFlag, readFlag, replyFlag, ackFlag}
+use Rattle.packet.specs.Frame.{initFlag, chunkFlag, doneFlag, abortedFlag, readFlag, replyFlag, ackFlag}
+use Rattle.packet.specs.Frame.{idOf, flagsOf, afterFlagsAt, initTopicAt, chunkPieceAt, doneEnd}
 
 -- "A run is outgoing packets, each after its byte count (2 bytes), from address (16) and to address (16)"
 unfoldable pub entry : List ℕ → List ℕ → List ℕ → List ℕ
@@ -36,14 +37,14 @@ readPacket id = header id readFlag
 
 -- "Replies set ack, keep other bytes": of the frame's first n bytes
 unfoldable pub replyPacket : ℕ → List ℕ → List ℕ
-replyPacket n f = part f 0 8 ++ (bitOr (flagsOf f) ackFlag ∷ []) ++ part f 9 (n - 9)
+replyPacket n f = idOf f ++ (bitOr (flagsOf f) ackFlag ∷ []) ++ part f afterFlagsAt (n - afterFlagsAt)
 
 -- how many bytes of the frame each reply keeps
 abbrev pub initReply : ℕ
-initReply = 21
+initReply = initTopicAt
 
 abbrev pub chunkReply : ℕ
-chunkReply = 36
+chunkReply = chunkPieceAt
 
 abbrev pub doneReply : ℕ
-doneReply = 52
+doneReply = doneEnd

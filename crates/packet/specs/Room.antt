@@ -1,11 +1,23 @@
--- What a writer of packets asks.
+-- What a reader and a writer of packets ask.
 use Prim.Native.Nat.{ℕ, _+_, _≤_}
 use mathlib.Core.Path.{_≡_}
 use mathlib.Core.List.{List}
 use lib.ListN.{length}
+use Rattle.packet.specs.Frame.{addressSize, initTopicAt, chunkPieceAt, largestPiece}
+
+-- where the longest topic of an init ends, 255 bytes, and the largest piece of a chunk
+abbrev pub initEnd : ℕ
+initEnd = initTopicAt + 255
+
+abbrev pub chunkEnd : ℕ
+chunkEnd = chunkPieceAt + largestPiece
+
+-- what stands before a packet in its entry
+abbrev pub entryFront : ℕ
+entryFront = 34
 
 -- addresses of 16 bytes, and room for a packet of n bytes behind its count and addresses
 pub record Room (run : List ℕ) (at : ℕ) (from to : List ℕ) (n : ℕ) : Type 0 where
-  pub source : length from ≡ 16
-  pub target : length to ≡ 16
-  pub fits : at + 34 + n ≤ length run
+  pub source : length from ≡ addressSize
+  pub target : length to ≡ addressSize
+  pub fits : at + entryFront + n ≤ length run

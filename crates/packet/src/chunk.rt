@@ -5,7 +5,9 @@ ghost use Prim.Native.Nat.{_+_, _≤_};
 ghost use lib.ListN.{length};
 ghost use Rattle.octets.specs.Octets.{put};
 ghost use Rattle.packet.specs.Frame.{chunkIndex, chunkOffset, chunkSize, piece, largestPiece};
+ghost use Rattle.packet.specs.Frame.{idSize, chunkOffsetAt, chunkSizeAt, chunkPieceAt};
 ghost use Rattle.packet.specs.Outgoing.{chunkPacket};
+ghost use Rattle.packet.specs.Room.{chunkEnd};
 
 pub struct MessageChunk {}
 
@@ -22,7 +24,7 @@ impl MessageChunk {
 
     // The index of the piece.
     pub fn index(frame: &[u8]) -> u64
-        requires { ⌜ 20 ≤ length (now frame) ⌝ }
+        requires { ⌜ chunkOffsetAt ≤ length (now frame) ⌝ }
         ensures { λ r. ⌜ r ≡ chunkIndex (now (frame .entry)) ⌝ }
     {
         octets::get64(frame, Self::INDEX)
@@ -30,7 +32,7 @@ impl MessageChunk {
 
     // Where the piece stands in the message.
     pub fn offset(frame: &[u8]) -> u64
-        requires { ⌜ 28 ≤ length (now frame) ⌝ }
+        requires { ⌜ chunkSizeAt ≤ length (now frame) ⌝ }
         ensures { λ r. ⌜ r ≡ chunkOffset (now (frame .entry)) ⌝ }
     {
         octets::get64(frame, Self::OFFSET)
@@ -38,7 +40,7 @@ impl MessageChunk {
 
     // The size of the piece: the field, or what fits into a frame if that is less.
     pub fn size(frame: &[u8]) -> usize
-        requires { ⌜ 36 ≤ length (now frame) ⌝ }
+        requires { ⌜ chunkPieceAt ≤ length (now frame) ⌝ }
         ensures { λ r. ⌜ (r ≡ chunkSize (now (frame .entry))) × (r ≤ largestPiece) ⌝ }
     {
         let n = octets::get64(frame, Self::LENGTH);
@@ -50,7 +52,7 @@ impl MessageChunk {
 
     // The piece, as that part of the frame.
     pub fn piece(frame: &[u8]) -> &[u8]
-        requires { ⌜ 1400 ≤ length (now frame) ⌝ }
+        requires { ⌜ chunkEnd ≤ length (now frame) ⌝ }
         ensures { λ r. ⌜ now r ≡ piece (now (frame .entry)) ⌝ }
     {
         let n = Self::size(frame);
@@ -59,7 +61,7 @@ impl MessageChunk {
 
     // A chunk packet, written at a.
     pub fn put(run: &mut [u8], a: usize, id: &[u8], index: u64, offset: u64, piece: &[u8])
-        requires { ⌜ (length (now id) ≡ 8) × (a + 36 + length (now piece) ≤ length (now run)) ⌝ }
+        requires { ⌜ (length (now id) ≡ idSize) × (a + chunkPieceAt + length (now piece) ≤ length (now run)) ⌝ }
         ensures { λ _.
             ⌜ now (run .exit)
             ≡ put (now (run .entry)) a (chunkPacket (now (id .entry)) index offset (now (piece .entry))) ⌝ }

@@ -4,7 +4,7 @@ ghost use mathlib.Core.Path.{_≡_};
 ghost use Prim.Native.Nat.{_+_, _≤_};
 ghost use lib.ListN.{length};
 ghost use Rattle.octets.specs.Octets.{put};
-ghost use Rattle.packet.specs.Frame.{doneCount, doneSum};
+ghost use Rattle.packet.specs.Frame.{doneCount, doneSum, idSize, doneSumAt, sumSize, doneEnd};
 ghost use Rattle.packet.specs.Outgoing.{donePacket};
 
 pub struct MessageDone {}
@@ -20,7 +20,7 @@ impl MessageDone {
 
     // The number of pieces.
     pub fn count(frame: &[u8]) -> u64
-        requires { ⌜ 20 ≤ length (now frame) ⌝ }
+        requires { ⌜ doneSumAt ≤ length (now frame) ⌝ }
         ensures { λ r. ⌜ r ≡ doneCount (now (frame .entry)) ⌝ }
     {
         octets::get64(frame, Self::COUNT)
@@ -28,7 +28,7 @@ impl MessageDone {
 
     // The sum, as that part of the frame.
     pub fn sum(frame: &[u8]) -> &[u8]
-        requires { ⌜ 52 ≤ length (now frame) ⌝ }
+        requires { ⌜ doneEnd ≤ length (now frame) ⌝ }
         ensures { λ r. ⌜ now r ≡ doneSum (now (frame .entry)) ⌝ }
     {
         &frame[Self::SUM..Self::SUM + Self::SUM_SIZE]
@@ -36,7 +36,7 @@ impl MessageDone {
 
     // A done packet, written at a.
     pub fn put(run: &mut [u8], a: usize, id: &[u8], count: u64, sum: &[u8])
-        requires { ⌜ (length (now id) ≡ 8) × (length (now sum) ≡ 32) × (a + 52 ≤ length (now run)) ⌝ }
+        requires { ⌜ (length (now id) ≡ idSize) × (length (now sum) ≡ sumSize) × (a + doneEnd ≤ length (now run)) ⌝ }
         ensures { λ _.
             ⌜ now (run .exit)
             ≡ put (now (run .entry)) a (donePacket (now (id .entry)) count (now (sum .entry))) ⌝ }

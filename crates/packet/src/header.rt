@@ -5,6 +5,7 @@ ghost use Prim.Native.Nat.{_+_, _≤_};
 ghost use lib.ListN.{length};
 ghost use Rattle.octets.specs.Octets.{put};
 ghost use Rattle.packet.specs.Frame.{has, kindOf, sentKind, ackKind, flagsOf, idOf, replyFlag};
+ghost use Rattle.packet.specs.Frame.{idSize, afterFlagsAt, bodyAt};
 ghost use Rattle.packet.specs.Outgoing.{header};
 
 // Bytes of the id, the place of the flag byte behind it, and that of the bytes behind that.
@@ -100,7 +101,7 @@ pub fn is_reply(flags: u8) -> bool
 
 // The flag byte of a frame.
 pub fn flags(frame: &[u8]) -> u8
-    requires { ⌜ 9 ≤ length (now frame) ⌝ }
+    requires { ⌜ afterFlagsAt ≤ length (now frame) ⌝ }
     ensures { λ r. ⌜ r ≡ flagsOf (now (frame .entry)) ⌝ }
 {
     frame[FLAGS]
@@ -108,7 +109,7 @@ pub fn flags(frame: &[u8]) -> u8
 
 // The id of a frame, as that part of it.
 pub fn id(frame: &[u8]) -> &[u8]
-    requires { ⌜ 8 ≤ length (now frame) ⌝ }
+    requires { ⌜ idSize ≤ length (now frame) ⌝ }
     ensures { λ r. ⌜ now r ≡ idOf (now (frame .entry)) ⌝ }
 {
     &frame[0..ID_SIZE]
@@ -116,7 +117,7 @@ pub fn id(frame: &[u8]) -> &[u8]
 
 // A header, written at a.
 pub fn put(run: &mut [u8], a: usize, id: &[u8], flags: u8)
-    requires { ⌜ (length (now id) ≡ 8) × (a + 12 ≤ length (now run)) ⌝ }
+    requires { ⌜ (length (now id) ≡ idSize) × (a + bodyAt ≤ length (now run)) ⌝ }
     ensures { λ _. ⌜ now (run .exit) ≡ put (now (run .entry)) a (header (now (id .entry)) flags) ⌝ }
 {
     let rest = [flags, 0, 0, 0];

@@ -6,7 +6,9 @@ ghost use Prim.Native.Nat.{_+_, _<_, _≤_};
 ghost use lib.ListN.{length};
 ghost use Rattle.octets.specs.Octets.{put};
 ghost use Rattle.packet.specs.Frame.{initLength, initTopic, initFlag, replyFlag};
+ghost use Rattle.packet.specs.Frame.{idSize, initTopicSizeAt, initTopicAt};
 ghost use Rattle.packet.specs.Outgoing.{initPacket};
+ghost use Rattle.packet.specs.Room.{initEnd};
 
 pub struct MessageInit {}
 
@@ -19,7 +21,7 @@ impl MessageInit {
 
     // The message's length.
     pub fn length(frame: &[u8]) -> u64
-        requires { ⌜ 20 ≤ length (now frame) ⌝ }
+        requires { ⌜ initTopicSizeAt ≤ length (now frame) ⌝ }
         ensures { λ r. ⌜ r ≡ initLength (now (frame .entry)) ⌝ }
     {
         octets::get64(frame, Self::LENGTH)
@@ -27,7 +29,7 @@ impl MessageInit {
 
     // The topic, as that part of the frame.
     pub fn topic(frame: &[u8]) -> &[u8]
-        requires { ⌜ 276 ≤ length (now frame) ⌝ }
+        requires { ⌜ initEnd ≤ length (now frame) ⌝ }
         ensures { λ r. ⌜ now r ≡ initTopic (now (frame .entry)) ⌝ }
     {
         let n = octets::small(frame[Self::TOPIC_LENGTH]);
@@ -46,9 +48,9 @@ impl MessageInit {
 
     // An init packet, written at a.
     pub fn put(run: &mut [u8], a: usize, id: &[u8], reply: bool, size: u64, topic: &[u8])
-        requires { ⌜ (length (now id) ≡ 8)
+        requires { ⌜ (length (now id) ≡ idSize)
             × (length (now topic) < 256)
-            × (a + 21 + length (now topic) ≤ length (now run)) ⌝ }
+            × (a + initTopicAt + length (now topic) ≤ length (now run)) ⌝ }
         ensures { λ _.
             ⌜ now (run .exit)
             ≡ put (now (run .entry)) a (initPacket (now (id .entry)) reply size (now (topic .entry))) ⌝ }

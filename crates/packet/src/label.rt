@@ -3,6 +3,7 @@
 
 ghost use mathlib.Core.Path.{_≡_};
 ghost use lib.ListN.{length};
+ghost use Rattle.packet.specs.Frame.{idSize, addressSize};
 ghost use Rattle.packet.specs.Named.{Named};
 
 pub struct Label {
@@ -15,7 +16,7 @@ pub struct Label {
 
 // An id of 8 bytes, as a value.
 fn id_of(bytes: &[u8]) -> [u8; 8]
-    requires { ⌜ length (now bytes) ≡ 8 ⌝ }
+    requires { ⌜ length (now bytes) ≡ idSize ⌝ }
     ensures { λ r. ⌜ r ≡ now (bytes .entry) ⌝ }
 {
     let mut id = [0u8; 8];
@@ -25,7 +26,7 @@ fn id_of(bytes: &[u8]) -> [u8; 8]
 
 // An address of 16 bytes, as a value.
 fn address_of(bytes: &[u8]) -> [u8; 16]
-    requires { ⌜ length (now bytes) ≡ 16 ⌝ }
+    requires { ⌜ length (now bytes) ≡ addressSize ⌝ }
     ensures { λ r. ⌜ r ≡ now (bytes .entry) ⌝ }
 {
     let mut address = [0u8; 16];
@@ -35,7 +36,8 @@ fn address_of(bytes: &[u8]) -> [u8; 16]
 
 // The label with these fields.
 pub fn labelled(id: &[u8], source: &[u8], destination: &[u8], reply: bool, total: u64) -> Label
-    requires { ⌜ (length (now id) ≡ 8) × (length (now source) ≡ 16) × (length (now destination) ≡ 16) ⌝ }
+    requires { ⌜ (length (now id) ≡ idSize) × (length (now source) ≡ addressSize)
+        × (length (now destination) ≡ addressSize) ⌝ }
     ensures { λ r.
         let s = now (source .entry) in
         let d = now (destination .entry) in

@@ -6,6 +6,9 @@ ghost use Prim.Native.Nat.{_≤_};
 ghost use lib.ListN.{length};
 ghost use Rattle.packet.specs.Frame.{idOf, flagsOf, initLength, initTopic, doneCount, doneSum};
 ghost use Rattle.packet.specs.Frame.{chunkIndex, chunkOffset, chunkSize, piece, largestPiece};
+ghost use Rattle.packet.specs.Frame.{idSize, afterFlagsAt, initTopicSizeAt, doneSumAt, doneEnd};
+ghost use Rattle.packet.specs.Frame.{chunkOffsetAt, chunkSizeAt, chunkPieceAt};
+ghost use Rattle.packet.specs.Room.{initEnd, chunkEnd};
 
 pub struct Frame<'a> {
     pub bytes: &'a [u8],
@@ -21,7 +24,7 @@ pub fn new<'a>(bytes: &'a [u8]) -> Frame<'a>
 impl<'a> Frame<'a> {
     // The id of a frame, as that part of it.
     pub fn id(self) -> &'a [u8]
-        requires { ⌜ 8 ≤ length (now (self .bytes)) ⌝ }
+        requires { ⌜ idSize ≤ length (now (self .bytes)) ⌝ }
         ensures { λ r. ⌜ now r ≡ idOf (now (self .entry .bytes)) ⌝ }
     {
         crate::header::id(self.bytes)
@@ -29,7 +32,7 @@ impl<'a> Frame<'a> {
 
     // The flag byte of a frame.
     pub fn flags(self) -> u8
-        requires { ⌜ 9 ≤ length (now (self .bytes)) ⌝ }
+        requires { ⌜ afterFlagsAt ≤ length (now (self .bytes)) ⌝ }
         ensures { λ r. ⌜ r ≡ flagsOf (now (self .entry .bytes)) ⌝ }
     {
         crate::header::flags(self.bytes)
@@ -37,7 +40,7 @@ impl<'a> Frame<'a> {
 
     // The message's length in an init.
     pub fn length(self) -> u64
-        requires { ⌜ 20 ≤ length (now (self .bytes)) ⌝ }
+        requires { ⌜ initTopicSizeAt ≤ length (now (self .bytes)) ⌝ }
         ensures { λ r. ⌜ r ≡ initLength (now (self .entry .bytes)) ⌝ }
     {
         crate::init::MessageInit::length(self.bytes)
@@ -45,7 +48,7 @@ impl<'a> Frame<'a> {
 
     // The topic of an init, as that part of the frame.
     pub fn topic(self) -> &'a [u8]
-        requires { ⌜ 276 ≤ length (now (self .bytes)) ⌝ }
+        requires { ⌜ initEnd ≤ length (now (self .bytes)) ⌝ }
         ensures { λ r. ⌜ now r ≡ initTopic (now (self .entry .bytes)) ⌝ }
     {
         crate::init::MessageInit::topic(self.bytes)
@@ -53,7 +56,7 @@ impl<'a> Frame<'a> {
 
     // The index of a chunk's piece.
     pub fn index(self) -> u64
-        requires { ⌜ 20 ≤ length (now (self .bytes)) ⌝ }
+        requires { ⌜ chunkOffsetAt ≤ length (now (self .bytes)) ⌝ }
         ensures { λ r. ⌜ r ≡ chunkIndex (now (self .entry .bytes)) ⌝ }
     {
         crate::chunk::MessageChunk::index(self.bytes)
@@ -61,7 +64,7 @@ impl<'a> Frame<'a> {
 
     // Where a chunk's piece stands in the message.
     pub fn offset(self) -> u64
-        requires { ⌜ 28 ≤ length (now (self .bytes)) ⌝ }
+        requires { ⌜ chunkSizeAt ≤ length (now (self .bytes)) ⌝ }
         ensures { λ r. ⌜ r ≡ chunkOffset (now (self .entry .bytes)) ⌝ }
     {
         crate::chunk::MessageChunk::offset(self.bytes)
@@ -69,7 +72,7 @@ impl<'a> Frame<'a> {
 
     // The size of a chunk's piece, at most what fits into a frame.
     pub fn size(self) -> usize
-        requires { ⌜ 36 ≤ length (now (self .bytes)) ⌝ }
+        requires { ⌜ chunkPieceAt ≤ length (now (self .bytes)) ⌝ }
         ensures { λ r. ⌜ (r ≡ chunkSize (now (self .entry .bytes))) × (r ≤ largestPiece) ⌝ }
     {
         crate::chunk::MessageChunk::size(self.bytes)
@@ -77,7 +80,7 @@ impl<'a> Frame<'a> {
 
     // The piece of a chunk, as that part of the frame.
     pub fn piece(self) -> &'a [u8]
-        requires { ⌜ 1400 ≤ length (now (self .bytes)) ⌝ }
+        requires { ⌜ chunkEnd ≤ length (now (self .bytes)) ⌝ }
         ensures { λ r. ⌜ now r ≡ piece (now (self .entry .bytes)) ⌝ }
     {
         crate::chunk::MessageChunk::piece(self.bytes)
@@ -85,7 +88,7 @@ impl<'a> Frame<'a> {
 
     // The number of pieces in a done.
     pub fn count(self) -> u64
-        requires { ⌜ 20 ≤ length (now (self .bytes)) ⌝ }
+        requires { ⌜ doneSumAt ≤ length (now (self .bytes)) ⌝ }
         ensures { λ r. ⌜ r ≡ doneCount (now (self .entry .bytes)) ⌝ }
     {
         crate::done::MessageDone::count(self.bytes)
@@ -93,7 +96,7 @@ impl<'a> Frame<'a> {
 
     // The sum in a done, as that part of the frame.
     pub fn sum(self) -> &'a [u8]
-        requires { ⌜ 52 ≤ length (now (self .bytes)) ⌝ }
+        requires { ⌜ doneEnd ≤ length (now (self .bytes)) ⌝ }
         ensures { λ r. ⌜ now r ≡ doneSum (now (self .entry .bytes)) ⌝ }
     {
         crate::done::MessageDone::sum(self.bytes)
@@ -102,7 +105,7 @@ impl<'a> Frame<'a> {
 
 // The id of a frame, as that part of it.
 pub fn id(frame: &[u8]) -> &[u8]
-    requires { ⌜ 8 ≤ length (now frame) ⌝ }
+    requires { ⌜ idSize ≤ length (now frame) ⌝ }
     ensures { λ r. ⌜ now r ≡ idOf (now (frame .entry)) ⌝ }
 {
     new(frame).id()
@@ -110,7 +113,7 @@ pub fn id(frame: &[u8]) -> &[u8]
 
 // The flag byte of a frame.
 pub fn flags(frame: &[u8]) -> u8
-    requires { ⌜ 9 ≤ length (now frame) ⌝ }
+    requires { ⌜ afterFlagsAt ≤ length (now frame) ⌝ }
     ensures { λ r. ⌜ r ≡ flagsOf (now (frame .entry)) ⌝ }
 {
     new(frame).flags()
@@ -118,7 +121,7 @@ pub fn flags(frame: &[u8]) -> u8
 
 // The message's length in an init.
 pub fn length(frame: &[u8]) -> u64
-    requires { ⌜ 20 ≤ length (now frame) ⌝ }
+    requires { ⌜ initTopicSizeAt ≤ length (now frame) ⌝ }
     ensures { λ r. ⌜ r ≡ initLength (now (frame .entry)) ⌝ }
 {
     new(frame).length()
@@ -126,7 +129,7 @@ pub fn length(frame: &[u8]) -> u64
 
 // The topic of an init, as that part of the frame.
 pub fn topic(frame: &[u8]) -> &[u8]
-    requires { ⌜ 276 ≤ length (now frame) ⌝ }
+    requires { ⌜ initEnd ≤ length (now frame) ⌝ }
     ensures { λ r. ⌜ now r ≡ initTopic (now (frame .entry)) ⌝ }
 {
     new(frame).topic()
@@ -134,7 +137,7 @@ pub fn topic(frame: &[u8]) -> &[u8]
 
 // The index of a chunk's piece.
 pub fn index(frame: &[u8]) -> u64
-    requires { ⌜ 20 ≤ length (now frame) ⌝ }
+    requires { ⌜ chunkOffsetAt ≤ length (now frame) ⌝ }
     ensures { λ r. ⌜ r ≡ chunkIndex (now (frame .entry)) ⌝ }
 {
     new(frame).index()
@@ -142,7 +145,7 @@ pub fn index(frame: &[u8]) -> u64
 
 // Where a chunk's piece stands in the message.
 pub fn offset(frame: &[u8]) -> u64
-    requires { ⌜ 28 ≤ length (now frame) ⌝ }
+    requires { ⌜ chunkSizeAt ≤ length (now frame) ⌝ }
     ensures { λ r. ⌜ r ≡ chunkOffset (now (frame .entry)) ⌝ }
 {
     new(frame).offset()
@@ -150,7 +153,7 @@ pub fn offset(frame: &[u8]) -> u64
 
 // The size of a chunk's piece, at most what fits into a frame.
 pub fn size(frame: &[u8]) -> usize
-    requires { ⌜ 36 ≤ length (now frame) ⌝ }
+    requires { ⌜ chunkPieceAt ≤ length (now frame) ⌝ }
     ensures { λ r. ⌜ (r ≡ chunkSize (now (frame .entry))) × (r ≤ largestPiece) ⌝ }
 {
     new(frame).size()
@@ -158,7 +161,7 @@ pub fn size(frame: &[u8]) -> usize
 
 // The piece of a chunk, as that part of the frame.
 pub fn piece(frame: &[u8]) -> &[u8]
-    requires { ⌜ 1400 ≤ length (now frame) ⌝ }
+    requires { ⌜ chunkEnd ≤ length (now frame) ⌝ }
     ensures { λ r. ⌜ now r ≡ piece (now (frame .entry)) ⌝ }
 {
     new(frame).piece()
@@ -166,7 +169,7 @@ pub fn piece(frame: &[u8]) -> &[u8]
 
 // The number of pieces in a done.
 pub fn count(frame: &[u8]) -> u64
-    requires { ⌜ 20 ≤ length (now frame) ⌝ }
+    requires { ⌜ doneSumAt ≤ length (now frame) ⌝ }
     ensures { λ r. ⌜ r ≡ doneCount (now (frame .entry)) ⌝ }
 {
     new(frame).count()
@@ -174,7 +177,7 @@ pub fn count(frame: &[u8]) -> u64
 
 // The sum in a done, as that part of the frame.
 pub fn sum(frame: &[u8]) -> &[u8]
-    requires { ⌜ 52 ≤ length (now frame) ⌝ }
+    requires { ⌜ doneEnd ≤ length (now frame) ⌝ }
     ensures { λ r. ⌜ now r ≡ doneSum (now (frame .entry)) ⌝ }
 {
     new(frame).sum()

@@ -11,8 +11,9 @@ ghost use mathlib.Core.List.{_++_};
 ghost use Prim.Native.Nat.{_+_, _<_, _≤_};
 ghost use lib.ListN.{length};
 ghost use Rattle.octets.specs.Octets.{put, be};
+ghost use Rattle.packet.specs.Frame.{idSize, sumSize, afterFlagsAt, bodyAt, initTopicAt, chunkPieceAt, doneEnd};
 ghost use Rattle.packet.specs.Outgoing.{entry, initPacket, chunkPacket, donePacket, header, replyPacket};
-ghost use Rattle.packet.specs.Room.{Room};
+ghost use Rattle.packet.specs.Room.{entryFront, Room};
 
 // Places in an entry.
 pub const FROM: usize = 2;
@@ -35,7 +36,8 @@ fn put_front(run: &mut [u8], a: usize, from: &[u8], to: &[u8], n: usize)
 
 // The entry of an init.
 pub fn put_init(run: &mut [u8], a: usize, label: Label, topic: &[u8])
-    requires { ⌜ (length (now topic) < 256) × (a + 34 + (21 + length (now topic)) ≤ length (now run)) ⌝ }
+    requires { ⌜ (length (now topic) < 256)
+        × (a + entryFront + (initTopicAt + length (now topic)) ≤ length (now run)) ⌝ }
     ensures { λ _.
         let packet = initPacket (label .id) (label .reply) (label .total) (now (topic .entry)) in
         ⌜ now (run .exit) ≡ put (now (run .entry)) a (entry (label .source) (label .destination) packet) ⌝ }
@@ -47,6 +49,12 @@ pub fn put_init(run: &mut [u8], a: usize, label: Label, topic: &[u8])
     MessageInit::put(run, a + PACKET, &id, label.reply, label.total, topic);
 }
 
+// Where a piece stands in its message: its index, and its offset in bytes.
+pub struct Position {
+    pub index: u64,
+    pub offset: u64,
+}
+
 // The entry of a chunk.
 pub fn put_chunk(
     run: &mut [u8],
@@ -54,25 +62,25 @@ pub fn put_chunk(
     from: &[u8],
     to: &[u8],
     id: &[u8],
-    index: u64,
-    offset: u64,
+    position: Position,
     piece: &[u8],
 )
-    requires { ⌜ Room (now run) a (now from) (now to) (36 + length (now piece)) ⌝ }
-    requires { ⌜ length (now id) ≡ 8 ⌝ }
+    requires { ⌜ Room (now run) a (now from) (now to) (chunkPieceAt + length (now piece)) ⌝ }
+    requires { ⌜ length (now id) ≡ idSize ⌝ }
     ensures { λ _.
         ⌜ now (run .exit)
         ≡ put (now (run .entry)) a
-        (entry (now (from .entry)) (now (to .entry)) (chunkPacket (now (id .entry)) index offset (now (piece .entry)))) ⌝ }
+        (entry (now (from .entry)) (now (to .entry))
+        (chunkPacket (now (id .entry)) (position .index) (position .offset) (now (piece .entry)))) ⌝ }
 {
     put_front(run, a, from, to, MessageChunk::PIECE + piece.len());
-    MessageChunk::put(run, a + PACKET, id, index, offset, piece);
+    MessageChunk::put(run, a + PACKET, id, position.index, position.offset, piece);
 }
 
 // The entry of a done.
 pub fn put_done(run: &mut [u8], a: usize, from: &[u8], to: &[u8], id: &[u8], count: u64, sum: &[u8])
-    requires { ⌜ Room (now run) a (now from) (now to) 52 ⌝ }
-    requires { ⌜ (length (now id) ≡ 8) × (length (now sum) ≡ 32) ⌝ }
+    requires { ⌜ Room (now run) a (now from) (now to) doneEnd ⌝ }
+    requires { ⌜ (length (now id) ≡ idSize) × (length (now sum) ≡ sumSize) ⌝ }
     ensures { λ _.
         ⌜ now (run .exit)
         ≡ put (now (run .entry)) a
@@ -84,8 +92,8 @@ pub fn put_done(run: &mut [u8], a: usize, from: &[u8], to: &[u8], id: &[u8], cou
 
 // The entry of a packet that is a header alone: aborted and read.
 pub fn put_header(run: &mut [u8], a: usize, from: &[u8], to: &[u8], id: &[u8], flags: u8)
-    requires { ⌜ Room (now run) a (now from) (now to) 12 ⌝ }
-    requires { ⌜ length (now id) ≡ 8 ⌝ }
+    requires { ⌜ Room (now run) a (now from) (now to) bodyAt ⌝ }
+    requires { ⌜ length (now id) ≡ idSize ⌝ }
     ensures { λ _.
         ⌜ now (run .exit)
         ≡ put (now (run .entry)) a
@@ -98,7 +106,7 @@ pub fn put_header(run: &mut [u8], a: usize, from: &[u8], to: &[u8], id: &[u8], f
 // The entry of a reply: the frame's first n bytes with the ack flag set.
 pub fn put_reply(run: &mut [u8], a: usize, from: &[u8], to: &[u8], frame: &[u8], n: usize)
     requires { ⌜ Room (now run) a (now from) (now to) n ⌝ }
-    requires { ⌜ (9 ≤ n) × (n ≤ length (now frame)) ⌝ }
+    requires { ⌜ (afterFlagsAt ≤ n) × (n ≤ length (now frame)) ⌝ }
     ensures { λ _.
         ⌜ now (run .exit)
         ≡ put (now (run .entry)) a

@@ -30,7 +30,8 @@ front-is b m1 m2 m3 l row kind cell r q h z f e1 e2 w1 w2 w3 w4 =
     w4 (omega arith) (z .destination) (omega arith) .is
 
 pub rest-is : (b m1 m2 m3 m4 l : List ℕ) (row total created end : ℕ) (topic : List ℕ) → length topic ≤ largestTopic → row + recBytes ≤ length b
-    → m1 ≡ put b (row + totalAt) (be numberWidth total) → m2 ≡ put m1 (row + createdAt) (be numberWidth created) → m3 ≡ put m2 (row + endAt) (be numberWidth end)
+    → m1 ≡ put b (row + totalAt) (be numberWidth total) → m2 ≡ put m1 (row + createdAt) (be numberWidth created)
+    → m3 ≡ put m2 (row + endAt) (be numberWidth end)
     → m4 ≡ put m3 (row + topicAt) topic → l ≡ put m4 (row + topicAt + length topic) (replicate (suc largestTopic - length topic) 0)
     → l ≡ put b (row + totalAt) (restOf total created end topic)
 rest-is b m1 m2 m3 m4 l row total created end topic z f w1 w2 w3 w4 w5 =
@@ -45,4 +46,6 @@ rest-is b m1 m2 m3 m4 l row total created end topic z f w1 w2 w3 w4 w5 =
 
 pub opened-is : (b m l : List ℕ) (row : ℕ) → row ≡ recOff (getD b freeAt 0) → m ≡ put b row (getD b heldAt 0 ∷ [])
     → l ≡ put m freeAt (getD b row 0 ∷ getD b freeAt 0 ∷ []) → l ≡ opened b
-opened-is b m l row e w1 w2 = w2 ∙ (λ i. put (w1 i) freeAt (getD b row 0 ∷ getD b freeAt 0 ∷ [])) ∙ (λ i. put (put b (e i) (getD b heldAt 0 ∷ [])) freeAt (getD b (e i) 0 ∷ getD b freeAt 0 ∷ []))
+opened-is b m l row e w1 w2 =
+    w2 ∙ (λ i. put (w1 i) freeAt (getD b row 0 ∷ getD b freeAt 0 ∷ []))
+    ∙ (λ i. put (put b (e i) (getD b heldAt 0 ∷ [])) freeAt (getD b (e i) 0 ∷ getD b freeAt 0 ∷ []))

@@ -16,7 +16,8 @@ use Rattle.machine.specs.Codes.{roleReceive, heldKind, kindArriving}
 use Rattle.machine.specs.Values.{Label, Cell, Rec, Store}
 use Rattle.machine.specs.Rows.{join}
 use Rattle.machine.specs.Chains.{first, chainRows}
-use Rattle.machine.specs.Layout.{freeAt, heldAt, totalAt, numberWidth, recOff, recPlace, cellPlace, recRow, recFields, recAt, freePlace, freeRow, encode, decode}
+use Rattle.machine.specs.Layout.{freeAt, heldAt, totalAt, numberWidth, recOff, recPlace, cellPlace, recRow, recFields, recAt, freePlace, freeRow}
+use Rattle.machine.specs.Layout.{encode, decode}
 use Rattle.machine.specs.Valid.{Valid}
 use Rattle.machine.specs.Receive.{started, initAt}
 use Rattle.machine.specs.Find.{isSome}
@@ -63,7 +64,8 @@ module _ (kind : ℕ) (h : Label) (z : FieldsFit h) (created end : ℕ) (p : ℕ
       ∙ ap fields (five (be numberWidth (h .total)) (be numberWidth created) (be numberWidth end) (h .topic) (replicate (suc largestTopic - length (h .topic)) 0))
       ∙ (λ i. fields (numbers (sym (append-nil (h .topic)) i ++ replicate (e i) 0)))
       ∙ ap (λ (l : List ℕ). kind ∷ h .reply ∷ 0 ∷ 0 ∷ cell ∷ length (h .topic) ∷ slotsOf (h .total) ∷ l)
-      (sym (seven (h .id) (h .source) (h .destination) (be numberWidth (h .total)) (be numberWidth created) (be numberWidth end) (h .topic ++ []) (replicate (recBytes - length (join (recFields kind 0 r))) 0)))
+      (sym (seven (h .id) (h .source) (h .destination) (be numberWidth (h .total)) (be numberWidth created) (be numberWidth end) (h .topic ++ [])
+      (replicate (recBytes - length (join (recFields kind 0 r))) 0)))
     where
       four : (a b c d : List ℕ) → ((a ++ b) ++ c) ++ d ≡ a ++ (b ++ (c ++ d))
       four a b c d = simp append-assoc
@@ -113,14 +115,19 @@ module _ (kind cell : ℕ) (h : Label) (z : FieldsFit h) (created end : ℕ) whe
     kept j g = getD-put-before b (recOff p + 1) row fits j (omega arith)
 
     free-kept : Openable filled
-    free-kept = record { some = omega (arith, kept freeAt (omega arith), f .some); small = omega (arith, kept freeAt (omega arith), f .small); long = omega (arith, length-put b (recOff p + 1) row fits, f .long) }
+    free-kept = record {
+      some = omega (arith, kept freeAt (omega arith), f .some);
+      small = omega (arith, kept freeAt (omega arith), f .small);
+      long = omega (arith, length-put b (recOff p + 1) row fits, f .long);
+    }
 
     -- what is written is the record, whatever its pieces are: they start at the place `cell`
     pub open-chain : (cells : List Cell) → first (map cellPlace cells) ≡ cell
         → openedRow kind cell h created end b ≡ openedWith kind (newRec p h created end cells) b
     open-chain cells e =
         let tail : row ≡ recTail kind (newRec p h created end cells) = ap (λ (x : ℕ). newRow kind x h created end) (sym e) ∙ new-row kind h z created end p cells in
-        (λ i. put (put filled (recOff (kept freeAt (omega arith) i)) (kept heldAt (omega arith) i ∷ [])) freeAt (getD filled (recOff (kept freeAt (omega arith) i)) 0 ∷ kept freeAt (omega arith) i ∷ []))
+        (λ i. put (put filled (recOff (kept freeAt (omega arith) i)) (kept heldAt (omega arith) i ∷ [])) freeAt
+        (getD filled (recOff (kept freeAt (omega arith) i)) 0 ∷ kept freeAt (omega arith) i ∷ []))
         ∙ (λ i. put ((put-before b (recOff p) (getD b heldAt 0) row fits ∙ ap (λ (l : List ℕ). put b (recOff p) (getD b heldAt 0 ∷ l)) tail
         ∙ ap (put b (recOff p)) (sym (rec-parts kind (getD b heldAt 0) (newRec p h created end cells)))) i) freeAt (kept (recOff p) (omega arith) i ∷ p ∷ []))
 
@@ -156,13 +163,15 @@ module _ (b : List ℕ) (y : Bytes b) (h : Label) (g : Ready b h) where
 
     behind : getD b (recOff q) 0 ≡ first qs
     behind =
-        let line : recAt b q ≡ freeRow recBytes (first (map freePlace qs)) q = subst (λ (l : List ℕ). Held (recAt b) (chainRows freePlace (freeRow recBytes) l)) is (held-free s (recAt b) (rep .recs)) .0 in
+        let line : recAt b q ≡ freeRow recBytes (first (map freePlace qs)) q =
+        subst (λ (l : List ℕ). Held (recAt b) (chainRows freePlace (freeRow recBytes) l)) is (held-free s (recAt b) (rep .recs)) .0 in
         first-byte b (recOff q) recBytes (omega arith) ∙ ap (λ (l : List ℕ). getD l 0 0) line ∙ ap first (free-map qs)
 
     valid : Valid roleReceive (initAt none h s)
     valid =
         subst (λ (o : Option Rec). Valid roleReceive (initAt o h s)) (g .held)
-        (init-valid h s (g .whole) (ap (λ (o : Option Rec). isSome o || ltb 0 (length (s .free))) (g .held) ∙ ap (λ (l : List ℕ). ltb 0 (length l)) is ∙ lt-ltb 0 (length (q ∷ qs)) (omega arith)) (g .fine) v)
+        (init-valid h s (g .whole) (ap (λ (o : Option Rec). isSome o || ltb 0 (length (s .free))) (g .held) ∙ ap (λ (l : List ℕ). ltb 0 (length l)) is
+        ∙ lt-ltb 0 (length (q ∷ qs)) (omega arith)) (g .fine) v)
 
     encoded : openedWith kindArriving (started (getD b freeAt 0) h) b ≡ encode (initAt none h s)
     encoded =

@@ -45,7 +45,7 @@ fn slots(total: u64) -> u8
     rows::message::slots(total) as u8
 }
 
-// The start of a new record, from its kind to its destination; cell is the place of its first cell.
+// The start of a new record, from its kind to its destination; cell is the link to its first cell.
 fn put_front(store: &mut [u8], row: usize, kind: u8, cell: u8, label: Label, topic: &[u8])
     requires { ⌜ FieldsFit (newLabel label (now topic)) × (row + recBytes ≤ length (now store)) ⌝ }
     ensures { λ _.
@@ -138,7 +138,7 @@ pub fn open_arriving(store: &mut [u8], label: Label, topic: &[u8])
     open_row(store, place::ARRIVING, 0, label, topic, times);
 }
 
-// A record that leaves is opened; its pieces stand in the cells from the place cell on.
+// A record that leaves is opened; cell is the link to its first cell.
 pub fn open_leaving(store: &mut [u8], cell: u8, label: Label, topic: &[u8], times: Times)
     requires { ⌜ Openable (now store) × FieldsFit (newLabel label (now topic)) ⌝ }
     ensures { λ _.

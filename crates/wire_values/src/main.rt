@@ -100,7 +100,11 @@ fn packets() {
     packet::run::put_init(&mut run, 3, label, b"duct");
     write_hex(&run);
     let mut run = [0xeeu8; 100];
-    packet::run::put_chunk(&mut run, 3, &from, &to, &id, 24, 31200, b"airflow");
+    let position = packet::run::Position {
+        index: 24,
+        offset: 31200,
+    };
+    packet::run::put_chunk(&mut run, 3, &from, &to, &id, position, b"airflow");
     write_hex(&run);
     let mut run = [0xeeu8; 100];
     packet::run::put_done(&mut run, 3, &from, &to, &id, 25, &key(1));

@@ -133,10 +133,12 @@ module _ (F : Field) (f : Name) where
         walk wt =
             qed W (raw Entry ∷ []) ∵ enter ! C Λ accessor (mach ∷ []) _ $
             alloc1 ! (λ l₀. alloc1 ! (λ l₁. alloc1 ! (λ l₂. alloc0 ! $ params1 ! $ pass1 ! (init ! 2 refl wt) $ pass0 ! $
-            assigns ! (of-opd ! (load ! (from ! (fld ! refl (stop !))) (look-in ! 2 (sub ! 0 refl (whole !))))) (from ! (stop !)) (init ! 0 refl (tt, wt .1 .0)) $
+            assigns ! (of-opd ! (load ! (from ! (fld ! refl (stop !))) (look-in ! 2 (sub ! 0 refl (whole !)))))
+            (from ! (stop !)) (init ! 0 refl (tt, wt .1 .0)) $
             move ! (6 ∷ []) $ use1 W (raw (Below .pre to) ⊛ ‵ Own) apart $ split ! $
             calls-at ! fm Below known to (and-then ! (load ! (from ! (stop !)) (look ! 2 refl)) (no-more !)) (λ u.
-            use1 W (later (some (λ (r : R .Denot). ((‵ (flft κ q) ⊛ ‵ ftrue) ⊛ ‵ (R .own r (u ∷ []))) ⊛ raw (Gives r)))) (id⊢ 𝓤 _) $ await ! tt $ pick ! (λ r.
+            use1 W (later (some (λ (r : R .Denot). ((‵ (flft κ q) ⊛ ‵ ftrue) ⊛ ‵ (R .own r (u ∷ []))) ⊛ raw (Gives r)))) (id⊢ 𝓤 _) $
+            await ! tt $ pick ! (λ r.
             split ! $ move ! (1 ∷ []) $ use1 W (raw (fact 𝓤 (Told r))) (said r) $ heard ! (Told r) (λ e. split ! $ move ! (1 ∷ []) $
             -- the context: the result, the tokens, the struct, then the locals from the last to the first
             peeks ! R (Is R) (shows 𝓤 H A R) r (u ∷ []) (λ is.
@@ -146,7 +148,8 @@ module _ (F : Field) (f : Name) where
     accessor-meets : (W : Given 𝓤 H A) (𝓣 : Tables 𝓤 H) → Triple 𝓤 (𝓣 .C f) Below → Triple 𝓤 (WpFn 𝓤 H (𝓣 .C) (𝓣 .Λ) accessor) (OnReader F 𝓤 H A)
     accessor-meets W 𝓣 known =
         let run : Fun 𝓤 = WpFn 𝓤 H (𝓣 .C) (𝓣 .Λ) accessor in
-        walk-meets 𝓤 H A (ofReader F) stayed W (goes-none 𝓤 H A W 1 Reader yes (λ κs x f. refl), tt) (reader-clauses F 𝓤) run (WpFn-mono 𝓤 H (W .laws) 𝓣 accessor)
+        walk-meets 𝓤 H A (ofReader F) stayed W (goes-none 𝓤 H A W 1 Reader yes (λ κs x f. refl), tt) (reader-clauses F 𝓤) run
+        (WpFn-mono 𝓤 H (W .laws) 𝓣 accessor)
         (walked 𝓤 H A (ofReader F) stayed (reader-clauses F 𝓤) run (λ κs. (LL.vals (D κs) (L κs), tt)) (λ κs. (LL.tells (D κs) (L κs), tt))
         (λ κs qs bounds a g are. needs 𝓤 _ _
         (λ ok. walk W (κs .0) (qs .0) (a .0) ok (𝓣 .C) (𝓣 .Λ) (fmOf 𝓤 H (W .laws) 𝓣) known (LL.lawful (D κs) (L κs) 𝓤 H A W .typed (a .0) _ (are .0) .0))))

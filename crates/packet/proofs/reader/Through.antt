@@ -116,7 +116,8 @@ module _ (F : Field) (f : Name) where
 
         goes : (d : Frame) (u : Val) → d .bytes ≡ s → ent 𝓤 (⋆ 𝓤 H A (‵ (Reader κs .own d (u ∷ [])) ∷ (‵ (flft κ q) ⊛ ‵ ftrue) ∷ [])) (Below .pre (to d u))
         goes d u e =
-            qed W (‵ (Reader κs .own d (u ∷ [])) ∷ (‵ (flft κ q) ⊛ ‵ ftrue) ∷ []) ∵ says ! (subst (λ (x : RefT (List ℕ)). F .reach ≤ length (now x)) (sym e) ok) $
+            qed W (‵ (Reader κs .own d (u ∷ [])) ∷ (‵ (flft κ q) ⊛ ‵ ftrue) ∷ []) ∵
+            says ! (subst (λ (x : RefT (List ℕ)). F .reach ≤ length (now x)) (sym e) ok) $
             nothing ! $ move ! (1 ∷ 0 ∷ []) $ fjoin ! $ move ! (1 ∷ 0 ∷ []) $ frame ! $ done !
 
         abbrev Gives : Frame → R .Denot → SProp 𝓤
@@ -141,14 +142,16 @@ module _ (F : Field) (f : Name) where
               pass1 ! (init ! 2 refl (shr-slice-lawful 𝓤 H A W (named 0) κ u8 .typed s (v ∷ []) p .0)) $ pass0 ! $
               move ! (6 ∷ []) $ use1 W (raw (New .pre to-new) ⊛ ‵ Own) goes-new $ split ! $
               calls-at ! fm New known-new to-new (and-then ! (load ! (from ! (stop !)) (look ! 4 refl)) (no-more !)) (λ u.
-              use1 W (later (some (λ (d : Frame). ((‵ (flft κ q) ⊛ ‵ ftrue) ⊛ ‵ (Reader κs .own d (u ∷ []))) ⊛ raw (Made d)))) (id⊢ 𝓤 _) $ await ! tt $ pick ! (λ d.
+              use1 W (later (some (λ (d : Frame). ((‵ (flft κ q) ⊛ ‵ ftrue) ⊛ ‵ (Reader κs .own d (u ∷ []))) ⊛ raw (Made d)))) (id⊢ 𝓤 _) $
+              await ! tt $ pick ! (λ d.
               split ! $ move ! (1 ∷ []) $ use1 W (raw (fact 𝓤 (d .bytes ≡ s))) (made d) $ heard ! (d .bytes ≡ s) (λ e. split ! $ move ! (1 ∷ []) $
               -- the context: the struct, the tokens, the copy of s, then the locals from the last to the first
               peeks ! (Reader κs) (Is (Reader κs)) (shows 𝓤 H A (Reader κs)) d (u ∷ []) (λ is.
               land ! (from ! (stop !)) (init ! 3 refl (LL.lawful (T.the-type αᵉ) (T′.the-laws αᵉ) 𝓤 H A W .typed d _ is .0)) $
               use2 W (raw (Below .pre (to d u))) (goes d u e) $
               calls-at ! fm Below known (to d u) (and-then ! (load ! (from ! (stop !)) (look ! 2 refl)) (no-more !)) (λ u′.
-              use1 W (later (some (λ (r : R .Denot). ((‵ (flft κ q) ⊛ ‵ ftrue) ⊛ ‵ (R .own r (u′ ∷ []))) ⊛ raw (Gives d r)))) (id⊢ 𝓤 _) $ await ! tt $ pick ! (λ r.
+              use1 W (later (some (λ (r : R .Denot). ((‵ (flft κ q) ⊛ ‵ ftrue) ⊛ ‵ (R .own r (u′ ∷ []))) ⊛ raw (Gives d r)))) (id⊢ 𝓤 _) $
+              await ! tt $ pick ! (λ r.
               split ! $ move ! (1 ∷ []) $ use1 W (raw (fact 𝓤 (Told (d .bytes) r))) (said d r) $ heard ! (Told (d .bytes) r) (λ e′. split ! $ move ! (1 ∷ []) $
               -- the context: the result, the tokens, the copy of s, then the locals
               peeks ! R (Is R) (shows 𝓤 H A R) r (u′ ∷ []) (λ is′.

@@ -50,4 +50,5 @@ returns c = search needs
 pub fresh-spec : {M : Type 1} → statement M
 fresh-spec =
     tie.close
-    (tie.spec Inv-loop μ-loop loop-holds slice-relend-prefix-made slice-aggregate-made made-requires one-requires add-n add-k loop-less loop-again same-length returns)
+    (tie.spec Inv-loop μ-loop loop-holds slice-relend-prefix-made slice-aggregate-made made-requires one-requires add-n add-k loop-less loop-again
+    same-length returns)

@@ -58,4 +58,5 @@ returns c = search needs
 pub head-spec : {M : Type 1} → statement M
 head-spec =
     tie.close
-    (tie.spec Inv-loop μ-loop slice-aggregate-write-all write-all-requires loop-holds values-requires slice-aggregate-write-all-2 write-all-requires-2 print-decimal-requires add-k loop-less loop-again slice-aggregate-write-all-3 write-all-requires-3 same-length returns)
+    (tie.spec Inv-loop μ-loop slice-aggregate-write-all write-all-requires loop-holds values-requires slice-aggregate-write-all-2
+    write-all-requires-2 print-decimal-requires add-k loop-less loop-again slice-aggregate-write-all-3 write-all-requires-3 same-length returns)

@@ -55,4 +55,5 @@ returns c = search needs
 pub values-spec : {M : Type 1} → statement M
 values-spec =
     tie.close
-    (tie.spec Inv-loop μ-loop slice-read-old loop-holds cast-s slice-write-s sound-requires one-requires add-n add-v loop-less loop-again slice-write-s-2 same-length returns)
+    (tie.spec Inv-loop μ-loop slice-read-old loop-holds cast-s slice-write-s sound-requires one-requires add-n add-v loop-less loop-again
+    slice-write-s-2 same-length returns)

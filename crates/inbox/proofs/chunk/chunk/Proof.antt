@@ -1,23 +1,30 @@
 -- Assumes nothing.
+use Prim.Native.Nat.{ℕ}
 use native.Mathlib.Omega.{arith}
-use mathlib.Core.Path.{_≡_, refl, sym, ap, _∙_}
+use mathlib.Core.Path.{_≡_, refl, sym, _∙_}
 use mathlib.Core.List.{_++_}
+use mathlib.Core.Option.{Option, none, some}
 use lib.ListN.{length}
 use borrow.Author.Tests.{leb-true, not-true, not-false}
 use Rattle.machine.specs.Codes.{roleReceive}
-use Rattle.machine.specs.Values.{Rec, Key}
-use Rattle.machine.specs.Layout.{encode, decode}
-use Rattle.machine.specs.Receive.{chunkStep}
+use Rattle.machine.specs.Values.{Rec}
+use Rattle.machine.specs.Layout.{decode}
+use Rattle.machine.specs.Receive.{found}
 use Rattle.machine.specs.Refusals.{Refusals, refusal, asksOf}
 use Rattle.machine_steps.specs.Refusals.{refusal-clear}
 use Rattle.records.specs.HeldAt.{metAt, recIn, HeldAt}
-use Rattle.records.specs.RefuseLaws.{next, stop, clear, refused, done}
-use Rattle.records.specs.SearchLaws.{Search, ended, number-is, passed, held-here, held-key}
-use Rattle.machine.specs.Packet.{pieceRow, cellRow}
-use Rattle.inbox.proofs.Chunks.{front-refuses, front-passes}
+use Rattle.records.specs.RefuseLaws.{next, stop, clear, front-stop, front-next, refused, done}
+use Rattle.records.specs.SearchLaws.{Search, ended, asks-met, number-is, passed, held-here, held-key}
+use Rattle.machine.specs.Packet.{pieceRow, cellRow, chunkRow}
 use borrow.Author.Needs.{needs}
 use Rattle.inbox.proofs.chunk.chunk.Statement.{statement}
 use Rattle.inbox.proofs.chunk.chunk.Tie as tie
+
+-- a row in two parts, of which the first refuses
+front-refuses : (o : Option Rec) (front rest : Rec → Refusals) {n : ℕ} → n ≡ refusal (asksOf o front) → (n ≡ 0 → ⊥)
+    → n ≡ refusal (asksOf o (λ r. front r ++ rest r))
+front-refuses none front rest e z = e
+front-refuses (some r) front rest e z = front-stop (front r) (rest r) _ e z
 
 -- the search for the id, and the two parts of the row
 abbrev start : tie.After-find-held → tie.Start
@@ -26,60 +33,76 @@ start c = c .before .before .before .before .before
 searched : (c : tie.After-find-held) → Search roleReceive (start c .args .recv .now) (start c .args .id .now) (c .find-held .result)
 searched c = record { bytes = λ i. c .before .before .before .before .slice-known .given i .fits; sound = start c .pre .0; is = c .find-held .ensures .0 }
 
+abbrev row : tie.Start → ℕ
+row s =
+    let a = s .args in
+    let t = decode (a .recv .now) in
+    refusal (chunkRow (a .index) (a .offset) (length (a .piece .now)) t (found (a .id .now) (t .held)))
+
 abbrev front : tie.Start → Rec → Refusals
 front s = let a = s .args in pieceRow (a .index) (a .offset) (length (a .piece .now))
 
 abbrev rest : tie.Start → Rec → Refusals
 rest s = let a = s .args in cellRow (a .index) (decode (a .recv .now))
 
--- the first part refuses nothing: the record is there
+-- the first part refuses nothing: the record is there, and passed it
 abbrev found-at : tie.Else1 → tie.After-find-held
 found-at c = c .before .before .before
 
-held : (c : tie.Else1) → HeldAt roleReceive (start (found-at c) .args .recv .now) (found-at c .find-held .result)
+abbrev begun : tie.Else1 → tie.Start
+begun c = start (found-at c)
+
+abbrev there : tie.Else1 → Rec
+there c = recIn (begun c .args .recv .now) (found-at c .find-held .result)
+
+held : (c : tie.Else1) → HeldAt roleReceive (begun c .args .recv .now) (found-at c .find-held .result)
 held c = held-here (searched (found-at c)) _ (c .before .refusal .ensures) (c .if1 .left)
 
-from12 : (c : tie.Else1) → let f = found-at c in let s = start f in let b = s .args .recv .now in
-    refusal (asksOf (metAt b (f .find-held .result)) (λ r. front s r ++ rest s r)) ≡ refusal (rest s (recIn b (f .find-held .result)))
-from12 c = let s = start (found-at c) in front-passes (searched (found-at c)) (front s) (rest s) (c .before .refusal .ensures) refl (c .if1 .left)
+front-clear : (c : tie.Else1) → refusal (front (begun c) (there c)) ≡ 0
+front-clear c = passed (searched (found-at c)) _ (c .before .refusal .ensures) (c .if1 .left)
 
-refusal-requires : tie.Need-refusal-requires
-refusal-requires c κs = ended (searched (c .before))
+-- .. and the second part gives the number
+from12 : (c : tie.Else1) {n : ℕ} → refusal (rest (begun c) (there c)) ≡ n → n ≡ row (begun c)
+from12 c e =
+    let h = searched (found-at c) in
+    number-is h _ (sym (asks-met (ended h) _ (λ e. omega (arith, held c .some)) ∙ front-next (front (begun c) (there c)) _ refl (front-clear c) ∙ e))
 
 returns : tie.Need-returns
 returns c =
     let found = c .before .before .before in
     let s = start found in
-    let h = searched found in
-    refused _ _ _ _ (number-is h _ (front-refuses h (front s) (rest s) (c .before .refusal .ensures) (c .if1 .taken))) (c .if1 .taken)
+    let met = metAt (s .args .recv .now) (found .find-held .result) in
+    refused _ _ _ _ (number-is (searched found) _ (front-refuses met (front s) (rest s) (c .before .refusal .ensures) (c .if1 .taken))) (c .if1 .taken)
 
 returns-2 : tie.Need-returns-2
 returns-2 c =
     let cell = c .before in
-    let there = cell .before .before .before .before in
-    refused 12 _ _ _ (number-is (searched (found-at there)) _ (sym (from12 there ∙ stop _ _ _ (sym (cell .has-cell .ensures) ∙ not-true _ (c .if2 .taken))))) (λ e. omega arith)
+    let none = sym (cell .has-cell .ensures) ∙ not-true _ (c .if2 .taken) in
+    refused 12 _ _ _ (from12 (cell .before .before .before .before) (stop _ _ _ none)) (λ e. omega arith)
 
 put-piece-requires : tie.Need-put-piece-requires
 put-piece-requires c κs =
     let cell = c .before .before in
     let link = cell .before .before in
-    let there = link .before .before in
-    let tests = refusal-clear _ refl (passed (searched (found-at there)) _ (there .before .refusal .ensures) (there .if1 .left)) in
-    (held there, link .piece-link .ensures, leb-true _ _ (tests .1 .0), leb-true _ _ (sym (cell .has-cell .ensures) ∙ not-false _ (c .before .if2 .left)), start (found-at there) .pre .1)
+    let accepted = link .before .before in (
+      held accepted,
+      link .piece-link .ensures,
+      leb-true _ _ (refusal-clear _ refl (front-clear accepted) .1 .0),
+      leb-true _ _ (sym (cell .has-cell .ensures) ∙ not-false _ (c .before .if2 .left)),
+      begun accepted .pre .1,
+    )
 
 returns-3 : tie.Need-returns-3
 returns-3 c =
     let put = c .before .before in
     let room = put .before .before in
     let cell = room .before in
-    let there = cell .before .before .before .before in
-    let h = searched (found-at there) in
-    let a = start (found-at there) .args in
-    done _ _ _ _ (number-is h _ (sym (from12 there ∙ next _ _ _ (sym (cell .has-cell .ensures) ∙ not-false _ (room .if2 .left)) ∙ clear)))
-    (put .put-piece .ensures ∙ ap (λ (k : Key). encode (chunkStep k (a .index) (a .piece .now) (decode (a .recv .now)))) (held-key h _ (there .before .refusal .ensures) (there .if1 .left)))
+    let accepted = cell .before .before .before .before in
+    let own = held-key (searched (found-at accepted)) _ (accepted .before .refusal .ensures) (accepted .if1 .left) in
+    done _ _ _ _ (from12 accepted (next _ _ _ (sym (cell .has-cell .ensures) ∙ not-false _ (room .if2 .left)) ∙ clear)) (rw own at (put .put-piece .ensures))
 
 pub chunk-spec : {M : Type 1} → statement M
 chunk-spec =
     tie.close
-    (tie.spec (λ c κs. search needs) refusal-requires (λ c. search needs) returns (λ c κs. (roleReceive, held (c .before)))
-    (λ c κs. (held (c .before .before .before), c .before .piece-link .ensures)) (λ c. search needs) returns-2 put-piece-requires (λ c. search needs) returns-3)
+    (tie.spec (λ c. search needs) (λ c κs. ended (searched (c .before))) (search needs) returns (λ c κs. (roleReceive, held (c .before)))
+    (λ c κs. (held (c .before .before .before), c .before .piece-link .ensures)) (search needs) returns-2 put-piece-requires (search needs) returns-3)

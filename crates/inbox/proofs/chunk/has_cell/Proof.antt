@@ -1,29 +1,23 @@
--- Assumes nothing.
+-- The piece has a cell, or needs a free one. Assumes nothing.
+use native.Mathlib.Omega.{arith}
 use mathlib.Core.Path.{sym, _∙_}
+use lib.ListN.{length}
+use borrow.Author.Tests.{le-leb}
 use Rattle.machine.specs.Codes.{roleReceive}
 use Rattle.machine.specs.Layout.{decode}
-use Rattle.records.specs.HeldAt.{recIn}
-use Rattle.inbox.proofs.Chunks.{own-cell, new-cell}
 use Rattle.inbox.proofs.chunk.has_cell.Statement.{statement}
 use Rattle.inbox.proofs.chunk.has_cell.Tie as tie
 
-has-piece-requires : tie.Need-has-piece-requires
-has-piece-requires c κs = ((roleReceive, c .before .pre .0), c .before .pre .1)
-
 returns : tie.Need-returns
 returns c =
-    let a = c .before .before .before .args in
-    own-cell (a .index) (recIn (a .recv .now) (a .link)) (decode (a .recv .now) .freeCells) (sym (c .before .has-piece .ensures) ∙ c .if1 .taken)
-
-is-free-cell-requires : tie.Need-is-free-cell-requires
-is-free-cell-requires c κs = record { role = roleReceive; is = c .before .before .before .pre .0 .sound }
+    let piece = c .before in
+    rw (sym (piece .has-piece .ensures) ∙ c .if1 .taken, le-leb 0 (length (decode (piece .before .before .args .recv .now) .freeCells)) (omega arith))
 
 returns-2 : tie.Need-returns-2
-returns-2 c =
-    let a = c .before .before .before .before .args in
-    c .is-free-cell .ensures ∙ new-cell (a .index) (recIn (a .recv .now) (a .link)) (decode (a .recv .now) .freeCells) (sym (c .before .before .has-piece .ensures) ∙ c .before .if1 .left)
+returns-2 c = rw (sym (c .before .before .has-piece .ensures) ∙ c .before .if1 .left) (c .is-free-cell .ensures)
 
 pub has-cell-spec : {M : Type 1} → statement M
 has-cell-spec =
     tie.close
-    (tie.spec has-piece-requires returns is-free-cell-requires returns-2)
+    (tie.spec (λ c κs. ((roleReceive, c .before .pre .0), c .before .pre .1)) returns
+    (λ c κs. record { role = roleReceive; is = c .before .before .before .pre .0 .sound }) returns-2)

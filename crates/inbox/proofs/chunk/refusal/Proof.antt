@@ -7,6 +7,7 @@ use mathlib.Core.List.{[], _∷_}
 use lib.ListN.{drop}
 use lib.Dec.{leb}
 use borrow.Author.Tests.{le-leb, lt-leb, not-true, not-false}
+use Rattle.octets.specs.Octets.{Bytes}
 use Rattle.machine.specs.Limits.{longest, topOf}
 use Rattle.machine.specs.Codes.{roleReceive}
 use Rattle.machine.specs.Layout.{recOf}
@@ -33,8 +34,11 @@ tests s t =
 abbrev start : tie.Else1 → tie.Start
 start c = c .before .before .before
 
+bytes : (c : tie.Else1) → Bytes (start c .args .recv .now)
+bytes c = λ i. c .before .before .shared-slice-known .given i .fits
+
 held : (c : tie.Else1) → HeldAt roleReceive (start c .args .recv .now) (start c .args .link)
-held c = searched-held _ _ (λ i. c .before .before .shared-slice-known .given i .fits) _ (start c .pre) (c .if1 .left)
+held c = searched-held _ _ (bytes c) _ (start c .pre) (c .if1 .left)
 
 -- .. and its length is read: the row from its n-th test on
 abbrev From : ℕ → tie.After-total → Type 0
@@ -53,7 +57,7 @@ from11 c = from10 (c .before .before) ∙ next _ _ _ (ap (leb _) (sym (c .before
 -- the length fits
 longest-is : (c : tie.After-total) → c .total .result ≤ longest
 unfolding recOf
-longest-is c = omega (arith, c .total .ensures, here-fine _ _ (λ i. c .before .before .before .shared-slice-known .given i .fits) _ (held (c .before)) .total)
+longest-is c = let met = c .before in omega (arith, c .total .ensures, here-fine _ _ (bytes met) _ (held met) .total)
 
 shared-slice-read-if1 : tie.Need-shared-slice-read-if1
 shared-slice-read-if1 c = searched-inside _ _ (λ i. c .before .shared-slice-known .given i .fits) _ (c .before .before .pre)
@@ -61,20 +65,11 @@ shared-slice-read-if1 c = searched-inside _ _ (λ i. c .before .shared-slice-kno
 returns : tie.Need-returns
 returns c = none-met (c .before .before .before .pre) _ (c .if1 .taken)
 
-total-requires : tie.Need-total-requires
-total-requires c κs = here-reached _ _ (λ i. c .before .before .shared-slice-known .given i .fits) _ (held c)
-
 returns-2 : tie.Need-returns-2
 returns-2 c = sym (from9 (c .before .before) ∙ stop _ _ _ (sym (c .before .fits2 .ensures) ∙ not-true _ (c .if2 .taken)))
 
-top-requires : tie.Need-top-requires
-top-requires c κs = longest-is (c .before .before)
-
 returns-3 : tie.Need-returns-3
 returns-3 c = sym (from10 (c .before .before) ∙ stop _ _ _ (ap (leb _) (sym (c .before .top .ensures .0)) ∙ lt-leb _ _ (c .if3 .taken)))
-
-too-short-requires : tie.Need-too-short-requires
-too-short-requires c κs = longest-is (c .before .before .before .before)
 
 returns-4 : tie.Need-returns-4
 returns-4 c = sym (from11 (c .before .before) ∙ stop _ _ _ (ap not (sym (c .before .too-short .ensures) ∙ c .if4 .taken)))
@@ -85,4 +80,5 @@ returns-5 c = sym (from11 (c .before .before) ∙ next _ _ _ (ap not (sym (c .be
 pub refusal-spec : {M : Type 1} → statement M
 refusal-spec =
     tie.close
-    (tie.spec shared-slice-read-if1 returns total-requires (λ c κs. search needs) returns-2 top-requires returns-3 too-short-requires returns-4 returns-5)
+    (tie.spec shared-slice-read-if1 returns (λ c κs. here-reached _ _ (bytes c) _ (held c)) (search needs) returns-2
+    (λ c κs. longest-is (c .before .before)) returns-3 (λ c κs. longest-is (c .before .before .before .before)) returns-4 returns-5)

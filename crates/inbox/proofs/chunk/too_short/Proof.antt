@@ -1,13 +1,12 @@
 -- Assumes nothing.
-use Rattle.inbox.proofs.Chunks.{short-is}
+use Rattle.machine.specs.Packet.{tooShort}
 use borrow.Author.Needs.{needs}
 use Rattle.inbox.proofs.chunk.too_short.Statement.{statement}
 use Rattle.inbox.proofs.chunk.too_short.Tie as tie
 
 returns : tie.Need-returns
-returns c = short-is _ _ (c .before .args .offset) _ _ (c .top .ensures .0)
+unfolding tooShort
+returns c = rw (c .top .ensures .0)
 
 pub too-short-spec : {M : Type 1} → statement M
-too-short-spec =
-    tie.close
-    (tie.spec (λ c κs. search needs) returns)
+too-short-spec = tie.close (tie.spec (search needs) returns)

@@ -15,4 +15,4 @@ returns c = c .equal .ensures ∙ ap (same (c .before .before .before .before .b
 pub has-sum-spec : {M : Type 1} → statement M
 has-sum-spec =
     tie.close
-    (tie.spec sum-pieces-requires (λ c. search needs) (λ c κs. search needs) returns)
+    (tie.spec sum-pieces-requires (search needs) (search needs) returns)

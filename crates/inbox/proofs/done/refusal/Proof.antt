@@ -3,17 +3,13 @@ use Prim.Native.Nat.{ℕ}
 use native.Mathlib.Omega.{arith}
 use mathlib.Core.Path.{_≡_, sym, ap, _∙_}
 use mathlib.Core.Bool.{not}
-use mathlib.Core.List.{[], _∷_}
-use lib.ListN.{length, drop}
-use lib.Dec.{eqb}
+use mathlib.Core.Option.{Option, some}
+use lib.ListN.{drop}
 use borrow.Author.Tests.{eq-eqb, ne-eqb, not-true, not-false}
-use Rattle.octets.specs.Octets.{same}
-use Rattle.blake3.specs.Tree.{blake3}
+use Rattle.octets.specs.Octets.{Bytes}
 use Rattle.machine.specs.Codes.{roleReceive, yes}
 use Rattle.machine.specs.Values.{Rec}
 use Rattle.machine.specs.Layout.{recOf}
-use Rattle.machine.specs.Pieces.{joined}
-use Rattle.machine.specs.Sound.{sizes}
 use Rattle.machine.specs.Refusals.{Refusals, refusal}
 use Rattle.machine.specs.Packet.{doneRow}
 use Rattle.records.specs.HeldAt.{metAt, recIn, HeldAt, Reached}
@@ -23,33 +19,28 @@ use Rattle.records.specs.SearchLaws.{none-met, asks-met}
 use Rattle.inbox.proofs.done.refusal.Statement.{statement}
 use Rattle.inbox.proofs.done.refusal.Tie as tie
 
--- the tests of the record
-abbrev tests : tie.Start → Refusals
-tests s =
-    let a = s .args in
-    let r : Rec = recIn (a .recv .now) (a .link) in
-    (eqb (a .count) (r .slots), 13)
-    ∷ (eqb (length (r .cells)) (r .slots), 14)
-    ∷ (eqb (sizes (r .cells)) (r .label .total), 15)
-    ∷ (same (a .sum .now) (blake3 (joined (r .cells))), 16)
-    ∷ (yes (a .known), 17)
-    ∷ []
+-- the row, of the record that was met, if one was
+abbrev row : tie.Start → Option Rec → Refusals
+row s o = let a = s .args in doneRow (a .count) (a .sum .now) (yes (a .known)) o
 
 -- a record is met
 abbrev start : tie.Else1 → tie.Start
 start c = c .before .before .before .before
 
+bytes : (c : tie.Else1) → Bytes (start c .args .recv .now)
+bytes c = λ i. c .before .before .before .shared-slice-known .given i .fits
+
 held : (c : tie.Else1) → HeldAt roleReceive (start c .args .recv .now) (start c .args .link)
-held c = searched-held _ _ (λ i. c .before .before .before .shared-slice-known .given i .fits) _ (start c .pre) (c .if1 .left)
+held c = searched-held _ _ (bytes c) _ (start c .pre) (c .if1 .left)
 
 reached : (c : tie.Else1) → Reached (start c .args .recv .now) (start c .args .link)
-reached c = here-reached _ _ (λ i. c .before .before .before .shared-slice-known .given i .fits) _ (held c)
+reached c = here-reached _ _ (bytes c) _ (held c)
 
 -- the row from its n-th test on
 abbrev From : ℕ → tie.Else1 → Type 0
 From n c =
     let a = start c .args in
-    refusal (doneRow (a .count) (a .sum .now) (yes (a .known)) (metAt (a .recv .now) (a .link))) ≡ refusal (drop n (tests (start c)))
+    refusal (row (start c) (metAt (a .recv .now) (a .link))) ≡ refusal (drop n (row (start c) (some (recIn (a .recv .now) (a .link)))))
 
 from13 : (c : tie.Else1) → From 0 c
 from13 c = asks-met (start c .pre) _ (c .if1 .left)
@@ -114,8 +105,7 @@ unfolding recOf
 has-sum-requires c κs =
     let total = c .before in
     let met = met4 c in
-    let f = here-fine _ _ (λ i. met .before .before .before .shared-slice-known .given i .fits) _ (held met) in
-    (held met, omega (arith, f .total, total .total .ensures, c .if4 .left, total .before .count-bytes .ensures))
+    (held met, omega (arith, here-fine _ _ (bytes met) _ (held met) .total, total .total .ensures, c .if4 .left, total .before .count-bytes .ensures))
 
 returns-5 : tie.Need-returns-5
 returns-5 c = sym (from16 (c .before .before) ∙ stop _ _ _ (sym (c .before .has-sum .ensures) ∙ not-true _ (c .if5 .taken)))

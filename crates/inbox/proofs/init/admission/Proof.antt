@@ -17,4 +17,4 @@ returns-3 c = ap numberOf (sym (c .enum-told3 .given .1) ∙ c .before .before .
 pub admission-spec : {M : Type 1} → statement M
 admission-spec =
     tie.close
-    (tie.spec (λ c κs. search needs) (λ c. search needs) (λ c. search needs) (λ c. search needs) returns returns-2 returns-3)
+    (tie.spec (search needs) (search needs) (search needs) (search needs) returns returns-2 returns-3)

@@ -63,4 +63,4 @@ returns-5 c =
 pub refusal-spec : {M : Type 1} → statement M
 refusal-spec =
     tie.close
-    (tie.spec (λ c κs. search needs) returns returns-2 shared-slice-read-if3 returns-3 (λ c κs. search needs) returns-4 returns-5)
+    (tie.spec (λ c. search needs) returns returns-2 shared-slice-read-if3 returns-3 (λ c. search needs) returns-4 returns-5)

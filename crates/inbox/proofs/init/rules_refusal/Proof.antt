@@ -26,4 +26,4 @@ returns-2 c = c .admission .ensures ∙ rw (c .before .if1 .left) (book-is _ _ _
 pub rules-refusal-spec : {M : Type 1} → statement M
 rules-refusal-spec =
     tie.close
-    (tie.spec returns (λ c κs. search needs) returns-2)
+    (tie.spec returns (search needs) returns-2)

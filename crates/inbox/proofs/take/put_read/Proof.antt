@@ -3,10 +3,9 @@ use native.Mathlib.Omega.{arith}
 use mathlib.Core.Path.{ap, _∙_}
 use lib.ListN.{length}
 use Rattle.octets.specs.Octets.{Bytes}
-use Rattle.machine.specs.Layout.{wholeAt}
+use Rattle.machine.specs.Layout.{wholeAt, recOf}
 use Rattle.records.specs.HeldAt.{Reached}
 use Rattle.inbox.specs.OldestLaws.{oldest-placed, oldest-head}
-use Rattle.inbox.proofs.Takes.{read-is}
 use borrow.Author.Needs.{needs}
 use Rattle.inbox.proofs.take.put_read.Statement.{statement}
 use Rattle.inbox.proofs.take.put_read.Tie as tie
@@ -36,13 +35,14 @@ put-header-requires c κs =
     )
 
 returns : tie.Need-returns
+unfolding recOf
 returns c =
     let put = c .before .before in
     let id = put .before in
     let source = id .before in
-    read-is _ _ _ _ _ _ (put .put-header .ensures) (source .before .destination .ensures) (source .source .ensures) (id .id .ensures)
+    rw (source .before .destination .ensures, source .source .ensures, id .id .ensures) at (put .put-header .ensures)
 
 pub put-read-spec : {M : Type 1} → statement M
 put-read-spec =
     tie.close
-    (tie.spec (λ c κs. placed c) (λ c κs. placed (c .before)) (λ c κs. placed (c .before .before)) put-header-requires (λ c. search needs) returns)
+    (tie.spec (λ c κs. placed c) (λ c κs. placed (c .before)) (λ c κs. placed (c .before .before)) put-header-requires (search needs) returns)

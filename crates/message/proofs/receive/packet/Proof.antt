@@ -1,25 +1,30 @@
--- The refusals in document 01's order, then the step and its reply. Assumes nothing.
+-- The refusals in PROTOCOL's order, then the step and its reply. Assumes nothing.
 use Prim.Native.Nat.{ℕ}
-use native.Mathlib.Omega.{arith}
-use mathlib.Core.Path.{_≡_, sym, ap, _∙_}
-use lib.ListN.{length}
+use mathlib.Core.Path.{_≡_, refl, sym, ap, _∙_}
+use lib.ListN.{length, drop}
 use borrow.Author.Tests.{eq-eqb, ne-eqb, le-leb, lt-leb, not-true, not-false}
 use Rattle.octets.specs.Octets.{put}
 use Rattle.packet.specs.declared.header.Kind.{Kind}
 use Rattle.packet.specs.Frame.{kindOf}
-use Rattle.machine.specs.Packet.{kind, isKind, kindWake, replyBytes, packetRow, packetOf, arrival}
-use Rattle.records.specs.RefuseLaws.{next, stop}
+use Rattle.machine.specs.Refusals.{Refusals, refusal}
+use Rattle.machine.specs.Packet.{Packet, kind, isKind, kindWake, replyBytes, packetRow, packetOf, arrival}
+use Rattle.records.specs.RefuseLaws.{next}
 use Rattle.message.specs.Both.{bothOf, replyOut}
-use Rattle.message.proofs.Packets.{Call, From, refused, step-out, done-out}
+use Rattle.message.proofs.Packets.{step-out, done-out}
 use borrow.Author.Needs.{needs}
 use Rattle.message.proofs.receive.packet.Statement.{statement}
 use Rattle.message.proofs.receive.packet.Tie as tie
 
--- the call, from each point on its way
-abbrev Q : tie.Start → Call
-Q s =
-    let a = s .args in
-    record { packet = arrival (a .frame .now) (a .from .now) (a .to .now) (a .rules .now) (a .known); recv = a .recv .now; send = a .send .now; out = a .run .now }
+-- the packet and its row of refusals, from each point on its way
+abbrev P : tie.Start → Packet
+P s = let a = s .args in arrival (a .frame .now) (a .from .now) (a .to .now) (a .rules .now) (a .known)
+
+abbrev row : tie.Start → Refusals
+row s = packetRow (P s) (s .args .recv .now) (s .args .send .now) (s .args .run .now)
+
+-- the first n tests hold
+abbrev From : ℕ → tie.Start → Type 0
+From n s = refusal (row s) ≡ refusal (drop n (row s))
 
 abbrev s1 : tie.Else1 → tie.Start
 s1 c = c .before .before .before .before .before .before .before .before
@@ -34,71 +39,62 @@ abbrev s4 : tie.Else4 → tie.Start
 s4 c = s3 (c .before .before .before .before .before)
 
 -- the kind of the frame is decided
-kind-is : (c : tie.After-kind-of) → c .kind-of .result ≡ kind (Q (s3 (c .before .before)) .packet)
+kind-is : (c : tie.After-kind-of) → c .kind-of .result ≡ kind (P (s3 (c .before .before)))
 kind-is c = c .kind-of .ensures ∙ ap kindOf (c .before .flags .ensures)
 
 -- the row behind each test
-from1 : (c : tie.Else1) → From 1 (Q (s1 c))
+from1 : (c : tie.Else1) → From 1 (s1 c)
 unfolding packetRow
 from1 c = next _ _ _ (sym (c .before .sound .ensures) ∙ not-false _ (c .if1 .left))
 
-from2 : (c : tie.Else2) → From 2 (Q (s2 c))
+from2 : (c : tie.Else2) → From 2 (s2 c)
 unfolding packetRow
 from2 c = from1 (c .before .before .before) ∙ next _ _ _ (sym (c .before .sound2 .ensures) ∙ not-false _ (c .if2 .left))
 
-from3 : (c : tie.Else3) → From 3 (Q (s3 c))
+from3 : (c : tie.Else3) → From 3 (s3 c)
 unfolding packetRow
 from3 c = from2 (c .before) ∙ next _ _ _ (eq-eqb _ _ (c .if3 .left))
 
-from4 : (c : tie.Else4) → From 4 (Q (s4 c))
+from4 : (c : tie.Else4) → From 4 (s4 c)
 unfolding packetRow
 from4 c =
     let effect = c .before .before in
     let kind = effect .before in
     from3 (kind .before .before) ∙ next _ _ _ (sym (effect .effect-of .ensures .0 ∙ ap isKind (kind-is kind)) ∙ not-false _ (c .if4 .left))
 
-from5 : (c : tie.Else5) → From 5 (Q (s4 (c .before)))
+from5 : (c : tie.Else5) → From 5 (s4 (c .before))
 unfolding packetRow
 from5 c = from4 (c .before) ∙ next _ _ _ (le-leb _ _ (c .if5 .left))
 
 returns : tie.Need-returns
-unfolding packetOf packetRow
+unfolding packetOf packetRow refusal
 returns c =
-    let s = c .before .before .before .before .before .before .before .before .before in
     let r = c .refuse .ensures in
-    refused (Q s) (sym (stop _ _ _ (sym (c .before .before .sound .ensures) ∙ not-true _ (c .before .if1 .taken)))) (λ e. omega arith) (r .0) (r .1) (r .2)
+    rw (sym (c .before .before .sound .ensures) ∙ not-true _ (c .before .if1 .taken), r .0, r .1, r .2) refl
 
 returns-2 : tie.Need-returns-2
-unfolding packetOf packetRow
+unfolding packetOf packetRow refusal
 returns-2 c =
     let sends = c .before .before in
-    let recvs = sends .before .before in
     let r = c .refuse2 .ensures in
-    refused (Q (s1 recvs)) (sym (from1 recvs ∙ stop _ _ _ (sym (sends .sound2 .ensures) ∙ not-true _ (c .before .if2 .taken)))) (λ e. omega arith) (r .0) (r .1) (r .2)
+    rw (from1 (sends .before .before), sym (sends .sound2 .ensures) ∙ not-true _ (c .before .if2 .taken), r .0, r .1, r .2) refl
 
 returns-3 : tie.Need-returns-3
-unfolding packetOf packetRow
-returns-3 c =
-    let sound = c .before .before in
-    let r = c .refuse3 .ensures in
-    refused (Q (s2 sound)) (sym (from2 sound ∙ stop _ _ _ (ne-eqb _ _ (c .before .if3 .taken)))) (λ e. omega arith) (r .0) (r .1) (r .2)
+unfolding packetOf packetRow refusal
+returns-3 c = let r = c .refuse3 .ensures in rw (from2 (c .before .before), ne-eqb _ _ (c .before .if3 .taken), r .0, r .1, r .2) refl
 
 returns-4 : tie.Need-returns-4
-unfolding packetOf packetRow
+unfolding packetOf packetRow refusal
 returns-4 c =
     let effect = c .before .before .before in
     let kind = effect .before in
-    let framed = kind .before .before in
+    let none = sym (effect .effect-of .ensures .0 ∙ ap isKind (kind-is kind)) ∙ not-true _ (c .before .if4 .taken) in
     let r = c .refuse4 .ensures in
-    refused (Q (s3 framed)) (sym (from3 framed ∙ stop _ _ _ (sym (effect .effect-of .ensures .0 ∙ ap isKind (kind-is kind)) ∙ not-true _ (c .before .if4 .taken)))) (λ e. omega arith)
-    (r .0) (r .1) (r .2)
+    rw (from3 (kind .before .before), none, r .0, r .1, r .2) refl
 
 returns-5 : tie.Need-returns-5
-unfolding packetOf packetRow
-returns-5 c =
-    let known = c .before .before in
-    let r = c .refuse5 .ensures in
-    refused (Q (s4 known)) (sym (from4 known ∙ stop _ _ _ (lt-leb _ _ (c .before .if5 .taken)))) (λ e. omega arith) (r .0) (r .1) (r .2)
+unfolding packetOf packetRow refusal
+returns-5 c = let r = c .refuse5 .ensures in rw (from4 (c .before .before), lt-leb _ _ (c .before .if5 .taken), r .0, r .1, r .2) refl
 
 -- what the step left
 abbrev accepted : tie.After-step → tie.Else4
@@ -117,37 +113,44 @@ step-requires c κs =
       framed .if3 .left,
     )
 
+-- the kind that it was told is the packet's own
+own : (c : tie.After-step) → let s = s4 (accepted c) in
+    let b = s .args .recv .now in
+    let c′ = s .args .send .now in
+    bothOf (effect-at c .before .kind-of .result) (P s) b c′ ≡ bothOf (kind (P s)) (P s) b c′
+own c = let s = s4 (accepted c) in ap (λ (k : Kind). bothOf k (P s) (s .args .recv .now) (s .args .send .now)) (kind-is (effect-at c .before))
+
 returns-6 : tie.Need-returns-6
-unfolding packetOf packetRow
+unfolding packetOf packetRow refusal
 returns-6 c =
     let step = c .before .before .before .before .before .before in
     let room = step .before .before .before .before .before in
     let r = c .refuse6 .ensures in
-    let q : Call = Q (s4 (room .before)) in
-    step-out q (from5 room) (step .step .ensures ∙ ap (λ (k : Kind). bothOf k (q .packet) (q .recv) (q .send)) (kind-is (effect-at step .before))) (c .before .if6 .taken) (r .0) (r .1) (r .2)
+    rw (from5 room, r .0, r .1, r .2) (step-out (P (s4 (room .before))) _ _ _ (step .step .ensures ∙ own step) (c .before .if6 .taken))
 
 reply-requires : tie.Need-reply-requires
 reply-requires c κs =
     let step = c .before .before .before .before .before .before in
     let room = step .before .before .before .before .before in
     let effect = effect-at step in
-    ((kind (Q (s4 (room .before)) .packet), effect .effect-of .ensures .1 ∙ ap replyBytes (kind-is (effect .before))), effect .before .before .before .if3 .left, room .if5 .left)
+    let known = effect .effect-of .ensures .1 ∙ ap replyBytes (kind-is (effect .before)) in
+    ((kind (P (s4 (room .before))), known), effect .before .before .before .if3 .left, room .if5 .left)
 
 returns-7 : tie.Need-returns-7
-unfolding packetOf packetRow
+unfolding packetOf packetRow refusal
 returns-7 c =
     let reply = c .before .before in
     let done = reply .before .before in
     let step = done .before .before .before .before .before in
     let room = step .before .before .before .before .before in
     let effect = effect-at step in
-    let q : Call = Q (s4 (room .before)) in
-    let p = q .packet in
+    let p : Packet = P (s4 (room .before)) in
     let e = effect .effect-of .ensures in
     let k = kind-is (effect .before) in
     let o = ap (λ (n : ℕ). replyOut n (p .frame) (p .from) (p .to)) (e .1 ∙ ap replyBytes k) in
-    done-out q (from5 room) (step .step .ensures ∙ ap (λ (k : Kind). bothOf k p (q .recv) (q .send)) k) (done .if6 .left)
-    (reply .reply .ensures .0 ∙ ap length o) (e .2 ∙ ap kindWake k) (reply .reply .ensures .1 ∙ ap (put (q .out) 0) o)
+    rw (from5 room)
+    (done-out p _ _ _ (step .step .ensures ∙ own step) (done .if6 .left)
+    (reply .reply .ensures .0 ∙ ap length o) (e .2 ∙ ap kindWake k) (reply .reply .ensures .1 ∙ ap (put _ 0) o))
 
 pub packet-spec : {M : Type 1} → statement M
 packet-spec =

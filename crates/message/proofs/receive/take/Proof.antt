@@ -1,16 +1,20 @@
 -- Assumes nothing.
-use mathlib.Core.Path.{_≡_, sym, _∙_}
+use mathlib.Core.Path.{_≡_, refl, sym, _∙_}
 use mathlib.Core.Bool.{true}
 use borrow.Author.Tests.{not-true, not-false}
 use Rattle.machine.specs.Codes.{roleReceive}
 use Rattle.machine.specs.Sound.{sound}
-use Rattle.message.proofs.Takes.{unsound, is-sound}
+use Rattle.machine.specs.Refusals.{refusal}
+use Rattle.machine.specs.Take.{takeRow, takeOf}
 use borrow.Author.Needs.{needs}
 use Rattle.message.proofs.receive.take.Statement.{statement}
 use Rattle.message.proofs.receive.take.Tie as tie
 
 returns : tie.Need-returns
-returns c = let a = c .refuse .ensures in unsound _ _ _ _ _ _ (sym (c .before .before .sound .ensures) ∙ not-true _ (c .before .if1 .taken)) (a .0) (a .1) (a .2)
+unfolding takeOf takeRow refusal
+returns c =
+    let r = c .refuse .ensures in
+    rw (sym (c .before .before .sound .ensures) ∙ not-true _ (c .before .if1 .taken), r .0, r .1, r .2) refl
 
 -- the store is sound
 sounds : (c : tie.Else1) → sound roleReceive (c .before .before .before .before .before .before .args .recv .now) ≡ true
@@ -20,7 +24,8 @@ take-requires : tie.Need-take-requires
 take-requires c κs = sounds (c .before .before .before)
 
 returns-2 : tie.Need-returns-2
-returns-2 c = let done = c .before .before .before .before .before .before in done .take .ensures ∙ is-sound _ _ _ (sounds (done .before .before .before .before))
+unfolding takeOf takeRow refusal
+returns-2 c = let done = c .before .before .before .before .before .before in rw (sounds (done .before .before .before .before)) (done .take .ensures)
 
 pub take-spec : {M : Type 1} → statement M
 take-spec =

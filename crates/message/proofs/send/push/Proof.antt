@@ -1,25 +1,23 @@
 -- Assumes nothing.
-use mathlib.Core.Path.{_≡_, sym, ap, _∙_}
+use Prim.Native.Nat.{ℕ}
+use mathlib.Core.Path.{_≡_, refl, sym, ap, _∙_}
 use mathlib.Core.Bool.{true}
 use lib.ListN.{length}
 use borrow.Author.Tests.{not-true, not-false}
+use Rattle.octets.specs.Bools.{one}
+use Rattle.octets.specs.BoolsLaws.{cases}
 use Rattle.packet.specs.declared.label.Label as carried
-use Rattle.machine.specs.Codes.{roleSend}
+use Rattle.machine.specs.Codes.{roleSend, yes}
 use Rattle.machine.specs.Layout.{decode}
 use Rattle.machine.specs.Sound.{sound}
 use Rattle.machine.specs.Refusals.{refusal}
 use Rattle.machine.specs.Outcomes.{SendOutcome, sendAt}
 use Rattle.machine.specs.Send.{initOut}
-use Rattle.machine.specs.Push.{Push, pushLabel, pushTests, pushOf, pushed}
+use Rattle.machine.specs.Push.{Push, pushLabel, pushTests, pushRow, pushOf}
 use Rattle.outbox.specs.Pushing.{pushes, pushedInto}
-use Rattle.message.proofs.Sends.{push-unsound, push-sound, reply-same}
 use borrow.Author.Needs.{needs}
 use Rattle.message.proofs.send.push.Statement.{statement}
 use Rattle.message.proofs.send.push.Tie as tie
-
--- what is pushed
-abbrev what : tie.Start → Push
-what s = let a = s .args in pushed (a .id .now) (a .reply) (a .from .now) (a .to .now) (a .topic .now) (a .bytes .now) (a .created) (a .try-ms)
 
 abbrev start : tie.After-sound → tie.Start
 start c = c .before .before .before .before .before .before
@@ -39,12 +37,15 @@ answered s l =
     let b = decode (a .send .now) in
     sendAt (refusal (pushTests p b (length (a .run .now)))) (pushedInto p b) (initOut (pushLabel p)) (a .send .now) (a .run .now)
 
+-- a reply mark is 1 or 0 where it is carried, and any number where it is pushed
+marked : (n : ℕ) → one (yes (one (yes n))) ≡ one (yes n)
+marked n = cases (yes n) (λ e. rw e refl) (λ e. rw e refl)
+
 returns : tie.Need-returns
-unfolding pushOf
+unfolding pushOf pushRow refusal
 returns c =
-    let s = start (c .before .before) in
-    let e = c .refuse .ensures in
-    push-unsound (what s) (s .args .send .now) (s .args .run .now) _ _ _ (sym (c .before .before .sound .ensures) ∙ not-true _ (c .before .if1 .taken)) (e .0) (e .1) (e .2)
+    let r = c .refuse .ensures in
+    rw (sym (c .before .before .sound .ensures) ∙ not-true _ (c .before .if1 .taken), r .0, r .1, r .2) refl
 
 push-requires : tie.Need-push-requires
 push-requires c κs =
@@ -52,15 +53,13 @@ push-requires c κs =
     (sounds (made .before .before .before .before), made .labelled .ensures .1, ap (λ (l : carried.Label). l .total) (made .labelled .ensures .0))
 
 returns-2 : tie.Need-returns-2
-unfolding pushOf
+unfolding pushOf pushRow refusal
 returns-2 c =
     let sent = c .before .before .before .before in
     let made = sent .before .before .before in
     let free = made .before .before .before .before in
     let s = begun free in
-    sent .push .ensures ∙ ap (answered s) (made .labelled .ensures .0)
-    ∙ reply-same (what s) (s .args .send .now) (s .args .run .now)
-    ∙ push-sound (what s) (s .args .send .now) (s .args .run .now) (sounds free)
+    rw (sounds free, ← marked (s .args .reply)) (sent .push .ensures ∙ ap (answered s) (made .labelled .ensures .0))
 
 pub push-spec : {M : Type 1} → statement M
 push-spec =

@@ -1,16 +1,20 @@
 -- Assumes nothing.
-use mathlib.Core.Path.{_≡_, sym, _∙_}
+use mathlib.Core.Path.{_≡_, refl, sym, _∙_}
 use mathlib.Core.Bool.{true}
 use borrow.Author.Tests.{not-true, not-false}
 use Rattle.machine.specs.Codes.{roleSend}
 use Rattle.machine.specs.Sound.{sound}
-use Rattle.message.proofs.Reports.{unsound, is-sound}
+use Rattle.machine.specs.Refusals.{refusal}
+use Rattle.machine.specs.Report.{reportRow, reportOf}
 use borrow.Author.Needs.{needs}
 use Rattle.message.proofs.send.report.Statement.{statement}
 use Rattle.message.proofs.send.report.Tie as tie
 
 returns : tie.Need-returns
-returns c = let a = c .refuse .ensures in unsound _ _ _ _ _ _ (sym (c .before .before .sound .ensures) ∙ not-true _ (c .before .if1 .taken)) (a .0) (a .1) (a .2)
+unfolding reportOf reportRow refusal
+returns c =
+    let r = c .refuse .ensures in
+    rw (sym (c .before .before .sound .ensures) ∙ not-true _ (c .before .if1 .taken), r .0, r .1, r .2) refl
 
 -- the store is sound
 sounds : (c : tie.Else1) → sound roleSend (c .before .before .before .before .args .send .now) ≡ true
@@ -20,7 +24,8 @@ report-requires : tie.Need-report-requires
 report-requires c κs = sounds (c .before .before)
 
 returns-2 : tie.Need-returns-2
-returns-2 c = let done = c .before .before in done .report .ensures ∙ is-sound _ _ _ (sounds (done .before .before .before))
+unfolding reportOf reportRow refusal
+returns-2 c = let done = c .before .before in rw (sounds (done .before .before .before)) (done .report .ensures)
 
 pub report-spec : {M : Type 1} → statement M
 report-spec =

@@ -10,14 +10,12 @@ use Rattle.octets.specs.NumbersLaws.{num-lt}
 use Rattle.packet.specs.declared.label.Label as carried
 use Rattle.packet.specs.declared.header.Kind.the-variants.{Init, Chunk, Done, Read, Aborted, AckInit, AckChunk, AckDone}
 use Rattle.packet.specs.Frame.{has, replyFlag, initLength, chunkSize}
-use Rattle.machine.specs.Codes.{stateInit, stateInProgress, stateReceived, stateRead, yes}
 use Rattle.machine.specs.Layout.{numberLimit, decode}
-use Rattle.machine.specs.Receive.{found, initStep, chunkStep, doneStep, dropStep}
-use Rattle.machine.specs.Send.{change, withState, ackPiece}
-use Rattle.machine.specs.Refusals.{refusal, heldRow}
-use Rattle.machine.specs.Packet.{Packet, asked, isReply, chunkRow, doneRow, stateRow, ackChunkRow, kindRow, recvStep, sendStep, arrival, rulesRow, placeRow}
+use Rattle.machine.specs.Receive.{found, initStep}
+use Rattle.machine.specs.Refusals.{refusal}
+use Rattle.machine.specs.Packet.{Packet, asked, isReply, kindRow, recvStep, sendStep, arrival, rulesRow, placeRow}
 use Rattle.records.specs.Opening.{newLabel}
-use Rattle.records.specs.Step.{stepped}
+use Rattle.records.specs.Step.{Stepped, stepped}
 use Rattle.message.proofs.Steps.{Stores, receives, sends}
 use borrow.Author.Needs.{needs}
 use Rattle.message.proofs.step.step.Statement.{statement}
@@ -33,7 +31,8 @@ P c = let a = start c .args in arrival (a .frame .now) (a .route .from) (a .rout
 stores : (c : tie.After-id) → Stores (start c .args .recv .now) (start c .args .send .now)
 stores c =
     let s = c .before .before .before in
-    record { recv-bytes = λ i. s .before .slice-known .given i .fits; send-bytes = λ i. s .slice-known2 .given i .fits; recv = start c .pre .0; send = start c .pre .1 }
+    let p = start c .pre in
+    record { recv-bytes = λ i. s .before .slice-known .given i .fits; send-bytes = λ i. s .slice-known2 .given i .fits; recv = p .0; send = p .1 }
 
 -- what an init says was read
 abbrev read : tie.After-length → tie.After-id
@@ -91,22 +90,23 @@ chunk-requires c κs =
     let s = start (piece .before .before .before .before .before) in
     (s .pre .0, omega (arith, ap length (piece .piece .ensures), length-part-le (s .args .frame .now) 36 (chunkSize (s .args .frame .now))))
 
+-- the row of an init with what was read, and its step
+abbrev announced : (rules : List ℕ) → List ℕ → carried.Label → List ℕ → Stepped
+announced rules b l topic =
+    let s = decode b in
+    let row = rulesRow (l .reply) (l .source) topic rules ++ placeRow (l .id) (l .total) s (found (l .id) (s .held)) in
+    stepped (refusal row) (initStep (newLabel l topic) s) b
+
 returns : tie.Need-returns
 unfolding kindRow recvStep sendStep
 returns c =
     let init = c .before .before in
-    let topic = init .before in
-    let made = topic .before .before in
+    let made = init .before .before .before in
     let told = made .before .before .before .before .before .before .before .before in
     let id = read (made .before) in
     let a = start id .args in
-    let b : List ℕ = a .recv .now in
-    let l = label-is made in
-    let t = topic .topic .ensures in
     receives (P id) (stores id) Init (told .enum-told .given .1) refl
-    (init .init .ensures
-    ∙ (λ j. stepped (refusal (rulesRow (l j .reply) (l j .source) (t j) (a .rules .now) ++ placeRow (l j .id) (l j .total) (decode b) (found (l j .id) (decode b .held))))
-    (initStep (newLabel (l j) (t j)) (decode b)) b))
+    (init .init .ensures ∙ (λ j. announced (a .rules .now) (a .recv .now) (label-is made j) (init .before .topic .ensures j)))
 
 returns-2 : tie.Need-returns-2
 unfolding kindRow recvStep sendStep
@@ -117,84 +117,56 @@ returns-2 c =
     let index = offset .before in
     let told = index .before in
     let id = told .before .before in
-    let s = start id in
-    let b : List ℕ = s .args .recv .now in
-    let f : List ℕ = s .args .frame .now in
-    let k = id .id .ensures in
-    let i = index .index .ensures in
-    let x = piece .piece .ensures in
-    let z = ap length x ∙ length-part f 36 (chunkSize f) (omega (arith, s .pre .2)) in
+    let f : List ℕ = start id .args .frame .now in
+    let size = ap length (piece .piece .ensures) ∙ length-part f 36 (chunkSize f) (omega (arith, start id .pre .2)) in
     receives (P id) (stores id) Chunk (told .enum-told2 .given .1) refl
-    (chunk .chunk .ensures
-    ∙ (λ j. stepped (refusal (chunkRow (i j) (offset .offset .ensures j) (z j) (decode b) (found (k j) (decode b .held)))) (chunkStep (k j) (i j) (x j) (decode b)) b))
+    (rw (← id .id .ensures, ← index .index .ensures, ← offset .offset .ensures, ← piece .piece .ensures, ← size) (chunk .chunk .ensures))
 
 returns-3 : tie.Need-returns-3
 unfolding kindRow recvStep sendStep
 returns-3 c =
-    let done = c .before .before in
-    let sum = done .before .before in
-    let count = sum .before in
-    let told = count .before in
+    let sum = c .before .before .before .before in
+    let told = sum .before .before in
     let id = told .before .before in
-    let a = start id .args in
-    let b : List ℕ = a .recv .now in
-    let k = id .id .ensures in
     receives (P id) (stores id) Done (told .enum-told3 .given .1) refl
-    (done .done .ensures
-    ∙ (λ j. stepped (refusal (doneRow (count .count .ensures j) (sum .sum .ensures j) (yes (a .known)) (found (k j) (decode b .held)))) (doneStep (k j) (decode b)) b))
+    (rw (← id .id .ensures, ← sum .before .count .ensures, ← sum .sum .ensures) (c .before .before .done .ensures))
 
 returns-4 : tie.Need-returns-4
 unfolding kindRow recvStep sendStep
 returns-4 c =
     let told = c .before .before .before .before in
     let id = told .before .before in
-    let b : List ℕ = start id .args .send .now in
-    let k = id .id .ensures in
-    sends (P id) (stores id) Read (told .enum-told4 .given .1) refl
-    (c .before .before .advance .ensures ∙ (λ j. stepped (refusal (stateRow stateReceived (found (k j) (decode b .held)))) (change (withState stateRead) (k j) (decode b)) b))
+    sends (P id) (stores id) Read (told .enum-told4 .given .1) refl (rw (← id .id .ensures) (c .before .before .advance .ensures))
 
 returns-5 : tie.Need-returns-5
 unfolding kindRow recvStep sendStep
 returns-5 c =
     let told = c .before .before .before .before in
     let id = told .before .before in
-    let b : List ℕ = start id .args .recv .now in
-    let k = id .id .ensures in
-    receives (P id) (stores id) Aborted (told .enum-told5 .given .1) refl
-    (c .before .before .abort .ensures ∙ (λ j. stepped (refusal (heldRow (found (k j) (decode b .held)))) (dropStep (k j) (decode b)) b))
+    receives (P id) (stores id) Aborted (told .enum-told5 .given .1) refl (rw (← id .id .ensures) (c .before .before .abort .ensures))
 
 returns-6 : tie.Need-returns-6
 unfolding kindRow recvStep sendStep
 returns-6 c =
     let told = c .before .before .before .before in
     let id = told .before .before in
-    let b : List ℕ = start id .args .send .now in
-    let k = id .id .ensures in
-    sends (P id) (stores id) AckInit (told .enum-told6 .given .1) refl
-    (c .before .before .advance2 .ensures ∙ (λ j. stepped (refusal (stateRow stateInit (found (k j) (decode b .held)))) (change (withState stateInProgress) (k j) (decode b)) b))
+    sends (P id) (stores id) AckInit (told .enum-told6 .given .1) refl (rw (← id .id .ensures) (c .before .before .advance2 .ensures))
 
 returns-7 : tie.Need-returns-7
 unfolding kindRow recvStep sendStep
 returns-7 c =
-    let ack = c .before .before in
-    let index = ack .before in
+    let index = c .before .before .before in
     let told = index .before .before in
     let id = told .before .before in
-    let b : List ℕ = start id .args .send .now in
-    let k = id .id .ensures in
-    let i = index .index2 .ensures in
     sends (P id) (stores id) AckChunk (told .enum-told7 .given .1) refl
-    (ack .ack-chunk .ensures ∙ (λ j. stepped (refusal (ackChunkRow (i j) (found (k j) (decode b .held)))) (change (ackPiece (i j)) (k j) (decode b)) b))
+    (rw (← id .id .ensures, ← index .index2 .ensures) (c .before .before .ack-chunk .ensures))
 
 returns-8 : tie.Need-returns-8
 unfolding kindRow recvStep sendStep
 returns-8 c =
     let told = c .before .before .before .before in
     let id = told .before .before in
-    let b : List ℕ = start id .args .send .now in
-    let k = id .id .ensures in
-    sends (P id) (stores id) AckDone (told .enum-told8 .given .1) refl
-    (c .before .before .advance3 .ensures ∙ (λ j. stepped (refusal (stateRow stateInProgress (found (k j) (decode b .held)))) (change (withState stateReceived) (k j) (decode b)) b))
+    sends (P id) (stores id) AckDone (told .enum-told8 .given .1) refl (rw (← id .id .ensures) (c .before .before .advance3 .ensures))
 
 returns-9 : tie.Need-returns-9
 unfolding kindRow refusal

@@ -2,11 +2,11 @@
 use Prim.Native.Nat.{ℕ}
 use native.Mathlib.Omega.{arith}
 use mathlib.Core.Path.{_≡_, sym, ap, _∙_}
-use mathlib.Core.List.{[], _∷_}
-use lib.ListN.{length, drop}
-use lib.Dec.{eqb, ltb}
+use mathlib.Core.Option.{some}
+use lib.ListN.{drop}
+use lib.Dec.{ltb}
 use borrow.Author.Tests.{eq-eqb, ne-eqb, lt-ltb, le-ltb}
-use Rattle.machine.specs.Codes.{roleSend, stateInProgress, wrongState, noSuchPiece}
+use Rattle.machine.specs.Codes.{roleSend}
 use Rattle.machine.specs.Layout.{recOf, decode}
 use Rattle.machine.specs.Receive.{found}
 use Rattle.machine.specs.Refusals.{refusal}
@@ -41,8 +41,7 @@ abbrev From : ℕ → tie.Else1 → Type 0
 From n c =
     let f = found-at c in
     let a = start f .args in
-    let r = recIn (a .send .now) (f .find-held .result) in
-    row (start f) ≡ refusal (drop n ((eqb (r .sending .state) stateInProgress, wrongState) ∷ (ltb (a .index) (length (r .cells)), noSuchPiece) ∷ []))
+    row (start f) ≡ refusal (drop n (ackChunkRow (a .index) (some (recIn (a .send .now) (f .find-held .result)))))
 
 from18 : (c : tie.Else1) → From 0 c
 from18 c = let h = searched (found-at c) in sym (number-is h _ (sym (asks-met (ended h) _ (c .if1 .left))))
@@ -92,5 +91,5 @@ returns-4 c =
 pub ack-chunk-spec : {M : Type 1} → statement M
 ack-chunk-spec =
     tie.close
-    (tie.spec (λ c κs. search needs) (λ c. search needs) (λ c. search needs) returns (λ c κs. there (c .before) .reached) (λ c. search needs) returns-2
-    (λ c κs. (roleSend, there (met-at (c .before)) .held)) (λ c. search needs) returns-3 ack-requires (λ c. search needs) returns-4)
+    (tie.spec (λ c. search needs) (search needs) (search needs) returns (λ c κs. there (c .before) .reached) (search needs) returns-2
+    (λ c κs. (roleSend, there (met-at (c .before)) .held)) (search needs) returns-3 ack-requires (search needs) returns-4)

@@ -1,10 +1,9 @@
 -- Assumes nothing.
 use Prim.Native.Nat.{ℕ}
 use mathlib.Core.Path.{_≡_, sym, _∙_}
-use mathlib.Core.List.{[], _∷_}
-use lib.Dec.{eqb}
+use mathlib.Core.Option.{some}
 use borrow.Author.Tests.{eq-eqb, ne-eqb}
-use Rattle.machine.specs.Codes.{roleSend, wrongState}
+use Rattle.machine.specs.Codes.{roleSend}
 use Rattle.machine.specs.Layout.{recOf, decode}
 use Rattle.machine.specs.Receive.{found}
 use Rattle.machine.specs.Refusals.{refusal}
@@ -36,7 +35,7 @@ abbrev row : tie.Start → ℕ
 row s = let a = s .args in refusal (stateRow (a .state) (found (a .id .now) (decode (a .send .now) .held)))
 
 from18 : (c : tie.Else1) → let f = found-at c in let a = start f .args in
-    row (start f) ≡ refusal ((eqb (recIn (a .send .now) (f .find-held .result) .sending .state) (a .state), wrongState) ∷ [])
+    row (start f) ≡ refusal (stateRow (a .state) (some (recIn (a .send .now) (f .find-held .result))))
 from18 c = let h = searched (found-at c) in sym (number-is h _ (sym (asks-met (ended h) _ (c .if1 .left))))
 
 returns : tie.Need-returns
@@ -69,5 +68,5 @@ returns-3 c =
 pub advance-spec : {M : Type 1} → statement M
 advance-spec =
     tie.close
-    (tie.spec (λ c κs. search needs) (λ c. search needs) (λ c. search needs) returns (λ c κs. there (c .before) .reached)
-    (λ c. search needs) returns-2 set-state-requires (λ c. search needs) returns-3)
+    (tie.spec (λ c. search needs) (search needs) (search needs) returns (λ c κs. there (c .before) .reached)
+    (search needs) returns-2 set-state-requires (search needs) returns-3)

@@ -45,5 +45,5 @@ returns-2 c =
 pub deadline-wake-spec : {M : Type 1} → statement M
 deadline-wake-spec =
     tie.close
-    (tie.spec (λ c κs. found (c .before .before)) drop-requires (λ c. search needs) returns
-    put-aborted-requires (λ c κs. search needs) (λ c. search needs) (λ c. search needs) returns-2)
+    (tie.spec (λ c κs. found (c .before .before)) drop-requires (search needs) returns
+    put-aborted-requires (λ c. search needs) (search needs) (search needs) returns-2)

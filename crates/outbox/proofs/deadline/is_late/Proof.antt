@@ -12,4 +12,4 @@ unfolding recOf
 returns c = ap (λ (x : ℕ). eqb x 1) (c .timed-out .ensures)
 
 pub is-late-spec : {M : Type 1} → statement M
-is-late-spec = tie.close (tie.spec (λ c κs. search needs) returns)
+is-late-spec = tie.close (tie.spec (search needs) returns)

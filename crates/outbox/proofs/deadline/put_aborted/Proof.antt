@@ -3,7 +3,7 @@ use native.Mathlib.Omega.{arith}
 use mathlib.Core.Path.{sym}
 use Rattle.machine.specs.Layout.{recOf}
 use Rattle.outbox.specs.WokenLaws.{nothing}
-use Rattle.outbox.proofs.Packets.{room, id-long, aborted-long}
+use Rattle.outbox.proofs.Packets.{aborted-long}
 use borrow.Author.Needs.{needs}
 use Rattle.outbox.proofs.deadline.put_aborted.Statement.{statement}
 use Rattle.outbox.proofs.deadline.put_aborted.Tie as tie
@@ -12,11 +12,15 @@ abbrev start : tie.After-source → tie.Start
 start c = c .before .before .before .before .before .before
 
 put-header-requires : tie.Need-put-header-requires
+unfolding recOf
 put-header-requires c κs =
     let to = c .before in
     let from = to .before in
     let p = start from .pre in
-    (room (p .0) (from .source .ensures) (to .destination .ensures) (omega (arith, p .1)), id-long (p .0) (c .id .ensures))
+    let z = p .0 .sized in (
+      record { source = rw (from .source .ensures) (z .source .0); target = rw (to .destination .ensures) (z .destination .0); fits = omega (arith, p .1) },
+      rw (c .id .ensures) (z .id .0),
+    )
 
 returns : tie.Need-returns
 unfolding recOf
@@ -39,5 +43,5 @@ returns-2 c = rw (rw (c .before .state .ensures) at (c .if1 .left)) nothing
 pub put-aborted-spec : {M : Type 1} → statement M
 put-aborted-spec =
     tie.close
-    (tie.spec (λ c κs. search needs) (λ c κs. search needs) (λ c κs. search needs) (λ c κs. search needs)
-    put-header-requires (λ c. search needs) (λ c. search needs) returns returns-2)
+    (tie.spec (search needs) (search needs) (search needs) (search needs)
+    put-header-requires (search needs) (search needs) returns returns-2)

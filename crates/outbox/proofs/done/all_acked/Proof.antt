@@ -15,4 +15,4 @@ returns c =
     rw (count .count-state .ensures .0, c .slots .ensures .0, sym (s .pre .counted)) (acked-is (recIn (s .args .send .now) (s .args .link) .cells))
 
 pub all-acked-spec : {M : Type 1} → statement M
-all-acked-spec = tie.close (tie.spec (λ c κs. search needs) (λ c κs. search needs) returns)
+all-acked-spec = tie.close (tie.spec (λ c. search needs) (search needs) returns)

@@ -2,7 +2,7 @@
 use native.Mathlib.Omega.{arith}
 use mathlib.Core.Path.{sym}
 use Rattle.machine.specs.Layout.{recOf}
-use Rattle.outbox.proofs.Packets.{room, id-long, done-long}
+use Rattle.outbox.proofs.Packets.{done-long}
 use borrow.Author.Needs.{needs}
 use Rattle.outbox.proofs.done.put_done.Statement.{statement}
 use Rattle.outbox.proofs.done.put_done.Tie as tie
@@ -11,11 +11,17 @@ abbrev start : tie.After-source → tie.Start
 start c = c .before .before .before .before .before
 
 put-done-requires : tie.Need-put-done-requires
+unfolding recOf
 put-done-requires c κs = (
   let to = c .before .before .before in
       let p = start (to .before) .pre in
-      room (p .0) (to .before .source .ensures) (to .destination .ensures) (omega (arith, p .1)),
-  (id-long (start (c .before .before .before .before) .pre .0) (c .before .before .id .ensures), search needs),
+      let z = p .0 .sized in
+      record {
+        source = rw (to .before .source .ensures) (z .source .0);
+        target = rw (to .destination .ensures) (z .destination .0);
+        fits = omega (arith, p .1);
+      },
+  (let id = c .before .before in rw (id .id .ensures) (start (id .before .before) .pre .0 .sized .id .0), search needs),
 )
 
 returns : tie.Need-returns
@@ -35,5 +41,5 @@ returns c =
 pub put-done-spec : {M : Type 1} → statement M
 put-done-spec =
     tie.close
-    (tie.spec (λ c κs. search needs) (λ c κs. search needs) (λ c κs. search needs) (λ c κs. search needs) (λ c κs. search needs)
-    (λ c. search needs) put-done-requires (λ c. search needs) (λ c. search needs) returns)
+    (tie.spec (λ c. search needs) (search needs) (search needs) (search needs) (search needs)
+    (search needs) put-done-requires (search needs) (search needs) returns)

@@ -1,10 +1,10 @@
 -- Assumes nothing.
 use Prim.Native.Nat.{_≤_}
 use native.Mathlib.Omega.{arith}
-use mathlib.Core.Path.{ap, _∙_}
+use mathlib.Core.Path.{ap}
 use lib.ListN.{length}
 use Rattle.machine.specs.Layout.{recOf}
-use Rattle.outbox.proofs.Packets.{id-long, init-long}
+use Rattle.outbox.proofs.Packets.{init-long}
 use borrow.Author.Needs.{needs}
 use Rattle.outbox.proofs.init.put_init.Statement.{statement}
 use Rattle.outbox.proofs.init.put_init.Tie as tie
@@ -26,8 +26,8 @@ unfolding recOf
 labelled-requires c κs =
     let to = c .before .before in
     let from = to .before in
-    let h = start (topic-at c) .pre .0 in
-    (id-long h (from .before .id .ensures), ap length (from .source .ensures) ∙ h .sized .source .0, ap length (to .destination .ensures) ∙ h .sized .destination .0)
+    let z = start (topic-at c) .pre .0 .sized in
+    (rw (from .before .id .ensures) (z .id .0), rw (from .source .ensures) (z .source .0), rw (to .destination .ensures) (z .destination .0))
 
 put-init-requires : tie.Need-put-init-requires
 put-init-requires c κs = let t = topic-at (c .before .before) in (omega (arith, short t), omega (arith, short t, start t .pre .1))
@@ -53,6 +53,6 @@ returns c =
 pub put-init-spec : {M : Type 1} → statement M
 put-init-spec =
     tie.close
-    (tie.spec (λ c κs. search needs) (λ c κs. search needs) (λ c κs. search needs) (λ c κs. search needs) (λ c κs. search needs) (λ c κs. search needs)
+    (tie.spec (search needs) (search needs) (search needs) (search needs) (search needs) (search needs)
     labelled-requires put-init-requires (λ c. omega (arith, short (topic-at (c .before .before .before .before .before))))
-    (λ c. omega (arith, short (topic-at (c .before .before .before .before .before)))) (λ c. search needs) returns)
+    (λ c. omega (arith, short (topic-at (c .before .before .before .before .before)))) (search needs) returns)

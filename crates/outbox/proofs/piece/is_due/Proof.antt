@@ -26,4 +26,4 @@ returns c =
 pub is-due-spec : {M : Type 1} → statement M
 is-due-spec =
     tie.close
-    (tie.spec (λ c κs. search needs) (λ c. search needs) (λ c. search needs) (λ c. search needs) (λ c κs. search needs) (λ c κs. search needs) returns)
+    (tie.spec (search needs) (search needs) (search needs) (search needs) (search needs) (search needs) returns)

@@ -30,6 +30,6 @@ returns-2 c =
 pub send-piece-spec : {M : Type 1} → statement M
 send-piece-spec =
     tie.close
-    (tie.spec (λ c κs. cell (c .before .before .before .before)) (λ c κs. search needs)
+    (tie.spec (λ c κs. cell (c .before .before .before .before)) (λ c. search needs)
     (λ c κs. cell (start (c .before .before .before .before .before .before .before)))
-    (λ c. search needs) (λ c. search needs) returns (λ c. search needs) returns-2)
+    (search needs) (search needs) returns (search needs) returns-2)

@@ -17,4 +17,4 @@ returns c = λ i. leb (c .before .slots .ensures i) ((c .count-free .ensures .0 
 pub has-cells-spec : {M : Type 1} → statement M
 has-cells-spec =
     tie.close
-    (tie.spec (λ c κs. search needs) count-free-requires returns)
+    (tie.spec (search needs) count-free-requires returns)

@@ -1,7 +1,5 @@
 -- Assumes nothing.
-use mathlib.Core.Path.{sym, subst}
 use Rattle.octets.specs.Octets.{Bytes}
-use Rattle.records.specs.Opening.{Openable}
 use Rattle.records.specs.OpenedLaws.{fine-fields}
 use Rattle.outbox.specs.PushedLaws.{cut-openable, push-opened}
 use borrow.Author.Needs.{needs}
@@ -22,7 +20,7 @@ open-leaving-requires : tie.Need-open-leaving-requires
 open-leaving-requires c κs =
     let cut = c .before .before .before in
     let s = start cut in
-    (subst Openable (sym (cut .cut .ensures)) (cut-openable _ (store cut) _ _ (s .pre .0) (bytes cut) _ _ (s .pre .1 .0) (s .pre .1 .1)), fine-fields (s .pre .0 .fine))
+    (rw (cut .cut .ensures) (cut-openable _ (store cut) _ _ (s .pre .0) (bytes cut) _ _ (s .pre .1 .0) (s .pre .1 .1)), fine-fields (s .pre .0 .fine))
 
 returns : tie.Need-returns
 returns c =
@@ -34,4 +32,4 @@ returns c =
 pub hold-spec : {M : Type 1} → statement M
 hold-spec =
     tie.close
-    (tie.spec (λ c κs. search needs) (λ c κs. search needs) open-leaving-requires (λ c. search needs) returns)
+    (tie.spec (λ c. search needs) (λ c κs. search needs) open-leaving-requires (search needs) returns)

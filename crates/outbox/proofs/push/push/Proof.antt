@@ -1,27 +1,37 @@
--- Assumes nothing.
+-- The row refuses, or the message is held and its init is put. Assumes nothing.
 use Prim.Native.Nat.{ℕ, _+_, _≤_}
 use native.Mathlib.Omega.{arith}
-use mathlib.Core.Path.{_≡_, sym, ap, _∙_}
+use mathlib.Core.Path.{_≡_, refl, sym, ap, _∙_}
+use mathlib.Core.Bool.{Bool}
 use lib.ListN.{length}
-use Rattle.machine.specs.Limits.{largestTopic}
-use Rattle.machine.specs.Values.{Label}
-use Rattle.machine.specs.Layout.{encode, decode}
-use Rattle.machine.specs.Refusals.{refusal}
-use Rattle.machine.specs.Send.{pushStep, initOut}
-use Rattle.machine.specs.Push.{Push, pushRoom, pushLabel, pushTests}
-use Rattle.outbox.specs.Pushing.{pushes, pushedInto}
-use Rattle.outbox.proofs.Sent.{refused-out, sent-out}
-use Rattle.outbox.proofs.Pushes.{wide, label-is, push-end, push-room, pushable, init-put, init-long}
+use lib.Dec.{eqb}
+use borrow.Author.Tests.{ne-eqb, leb-true, ltb-true, not-true}
+use Rattle.octets.specs.Octets.{capacity}
+use Rattle.octets.specs.Bools.{one}
+use Rattle.octets.specs.BoolsLaws.{cases, one-le}
+use Rattle.packet.specs.LengthsLaws.{length-entry, length-init}
+use Rattle.machine.specs.Limits.{longest, largestTopic}
+use Rattle.machine.specs.Codes.{yes}
+use Rattle.machine.specs.Layout.{numberLimit, decode}
+use Rattle.machine.specs.Refusals.{Refusals, refusal}
+use Rattle.machine.specs.Push.{pushRoom, pushTests}
+use Rattle.machine.specs.Send.{initOut}
+use Rattle.machine_steps.specs.Find.{is-none}
+use Rattle.machine_steps.specs.Refusals.{Clear, refusal-clear}
+use Rattle.records.specs.Opening.{newLabel}
+use Rattle.outbox.specs.Pushing.{pushes}
 use borrow.Author.Needs.{needs}
 use Rattle.outbox.proofs.push.push.Statement.{statement}
 use Rattle.outbox.proofs.push.push.Tie as tie
 
--- what is pushed, and what the row answers
-abbrev what : tie.Start → Push
-what s = let a = s .args in pushes (a .label) (a .topic .now) (a .bytes .now) (a .created) (a .try-ms)
+-- its tests, and what the row answers
+abbrev tests : tie.Start → Refusals
+tests s =
+    let a = s .args in
+    pushTests (pushes (a .label) (a .topic .now) (a .bytes .now) (a .created) (a .try-ms)) (decode (a .send .now)) (length (a .run .now))
 
 abbrev row : tie.Start → ℕ
-row s = refusal (pushTests (what s) (decode (s .args .send .now)) (length (s .args .run .now)))
+row s = refusal (tests s)
 
 abbrev start : tie.After-refusal → tie.Start
 start c = c .before .before .before .before .before .before .before .before
@@ -33,41 +43,69 @@ begun c = start (c .before)
 clear : (c : tie.Else1) → row (begun c) ≡ 0
 clear c = sym (c .before .refusal .ensures) ∙ c .if1 .left
 
-room : (c : tie.Else1) → let a = begun c .args in (pushRoom ≤ length (a .run .now)) × (length (a .topic .now) ≤ largestTopic)
-room c =
-    let a = begun c .args in
-    push-room (a .label) (a .topic .now) (a .bytes .now) (a .created) (a .try-ms) (begun c .pre .2) (a .send .now) (length (a .run .now)) (clear c)
+passed : (c : tie.Else1) → Clear (tests (begun c))
+passed c = refusal-clear _ refl (clear c)
 
 end : (c : tie.Else1) → begun c .args .created + begun c .args .try-ms ≤ 18446744073709551615
-end c =
-    let a = begun c .args in
-    push-end (a .label) (a .topic .now) (a .bytes .now) (a .created) (a .try-ms) (begun c .pre .2) (a .send .now) (length (a .run .now)) (clear c)
+unfolding capacity
+end c = let a = begun c .args in omega (arith, ltb-true (a .created + a .try-ms) numberLimit (passed c .1 .1 .1 .0))
+
+-- a flag, as the label and as the packet has it
+flag-label : (x : Bool) → yes (one x) ≡ x
+flag-label x = cases x (λ e. rw e) (λ e. rw e)
+
+flag-packet : (x : Bool) → eqb (one x) 1 ≡ x
+flag-packet x = cases x (λ e. rw e) (λ e. rw e)
+
+-- how long its init is
+init-long : (s : tie.Start) → let a = s .args in length (initOut (newLabel (a .label) (a .topic .now))) ≡ 34 + 21 + length (a .topic .now)
+init-long s =
+    let n = s .pre .1 in
+    length-entry _ _ _ (n .source .0) (n .destination .0) ∙ ap (λ (n : ℕ). 34 + n) (length-init _ _ _ _ (n .id .0)) ∙ omega arith
 
 returns : tie.Need-returns
 returns c =
-    let s = start (c .before .before) in
     let e = c .refuse .ensures in
-    refused-out (row s) (pushedInto (what s) (decode (s .args .send .now))) (initOut (pushLabel (what s))) _ _ _ _ _ _
-    (c .before .before .refusal .ensures) (c .before .if1 .taken) (e .0) (e .1) (e .2)
-
-add-sent : tie.Need-add-sent
-add-sent c = omega (arith, end c)
+    let asked = c .before .before in
+    rw (← asked .refusal .ensures, ne-eqb (asked .refusal .result) 0 (c .before .if1 .taken), e .0, e .1, e .2)
 
 hold-requires : tie.Need-hold-requires
+unfolding capacity
 hold-requires c κs =
     let free = c .before in
     let s = begun free in
     let known = free .before .before .before .before .before .before .before in
-    let a = s .args in (
-      pushable (a .label) (a .topic .now) (a .bytes .now) (a .created) (a .try-ms) (s .pre .2) (a .send .now) (length (a .run .now)) (clear free)
-          (s .pre .0) (s .pre .1) (λ i. known .shared-slice-known .given i .fits),
-      (wide _ (omega (arith, s .fits .created)), wide _ (end free)),
+    let p = passed free in
+    let n = s .pre .1 in
+    let fits = leb-true (length (s .args .bytes .now)) longest (p .1 .1 .0) in (
+      record {
+        sound = s .pre .0;
+        fine = record {
+          sized = record {
+            id = n .id;
+            source = n .source;
+            destination = n .destination;
+            total = omega (arith, s .pre .2, fits);
+            topic = (leb-true _ _ (p .1 .0), λ i. known .shared-slice-known .given i .fits);
+          };
+          reply = one-le (s .args .label .reply);
+          total = omega (arith, s .pre .2, fits);
+        };
+        total = s .pre .2;
+        held = is-none _ (not-true _ (p .1 .1 .1 .1 .0));
+        free = ltb-true 0 _ (p .1 .1 .1 .1 .1 .0);
+        cells = leb-true _ _ (p .1 .1 .1 .1 .1 .1 .0);
+      },
+      (omega (arith, s .fits .created), omega (arith, end free)),
     )
 
 put-init-requires : tie.Need-put-init-requires
 put-init-requires c κs =
     let free = c .before .before .before .before .before in
-    (omega (arith, room free .1), omega (arith, room free .0, room free .1))
+    let s = begun free in
+    let p = passed free in
+    let topic = leb-true (length (s .args .topic .now)) largestTopic (p .1 .0) in
+    (omega arith, omega (arith, leb-true pushRoom (length (s .args .run .now)) (p .0)))
 
 returns-2 : tie.Need-returns-2
 returns-2 c =
@@ -75,16 +113,12 @@ returns-2 c =
     let held = put .before .before .before .before in
     let free = held .before .before in
     let s = begun free in
-    let a = s .args in
+    let flag = s .args .label .reply in
     let e = c .sent .ensures in
-    sent-out (row s) (pushedInto (what s) (decode (a .send .now))) (initOut (pushLabel (what s))) _ _ _ _ _ _ _ (sym (clear free)) (e .0)
-    (e .1 ∙ init-long (a .label) (a .topic .now) (a .bytes .now) (a .created) (a .try-ms) (s .pre .2) (s .pre .1)) (e .2)
-    (held .hold .ensures ∙ ap (λ (h : Label). encode (pushStep h (a .created) (a .created + a .try-ms) (a .bytes .now) (decode (a .send .now))))
-    (label-is (a .label) (a .topic .now) (a .bytes .now) (a .created) (a .try-ms) (s .pre .2)))
-    (init-put (a .label) (a .topic .now) (a .bytes .now) (a .created) (a .try-ms) (s .pre .2) (a .run .now) _ (put .put-init .ensures))
+    rw (clear free, flag-label flag, e .0, e .1, e .2, ← init-long s, ← s .pre .2, held .hold .ensures, put .put-init .ensures, flag-packet flag)
 
 pub push-spec : {M : Type 1} → statement M
 push-spec =
     tie.close
-    (tie.spec (λ c. search needs) (λ c κs. search needs) (λ c κs. search needs) (λ c. search needs) returns add-sent hold-requires put-init-requires
-    (λ c. search needs) (λ c. search needs) (λ c κs. search needs) (λ c. search needs) (λ c. search needs) returns-2)
+    (tie.spec (search needs) (λ c. search needs) (search needs) (search needs) returns (λ c. omega (arith, end c)) hold-requires put-init-requires
+    (search needs) (search needs) (search needs) (search needs) (search needs) returns-2)

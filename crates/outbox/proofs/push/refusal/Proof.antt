@@ -78,5 +78,5 @@ returns-8 c = let at = c .before in sym (from12 (at .before) ∙ next _ _ _ (sym
 pub refusal-spec : {M : Type 1} → statement M
 refusal-spec =
     tie.close
-    (tie.spec returns returns-2 returns-3 (λ c. search needs) returns-4 (λ c κs. search needs) returns-5 (λ c κs. search needs) returns-6
-    (λ c κs. search needs) returns-7 returns-8)
+    (tie.spec returns returns-2 returns-3 (search needs) returns-4 (λ c. search needs) returns-5 (λ c. search needs) returns-6
+    (λ c. search needs) returns-7 returns-8)

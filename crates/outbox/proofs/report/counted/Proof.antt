@@ -24,4 +24,4 @@ returns-2 c =
     (c .count-state .ensures .0)
 
 pub counted-spec : {M : Type 1} → statement M
-counted-spec = tie.close (tie.spec (λ c κs. search needs) returns (λ c κs. search needs) (λ c. search needs) returns-2)
+counted-spec = tie.close (tie.spec (search needs) returns (λ c. search needs) (search needs) returns-2)

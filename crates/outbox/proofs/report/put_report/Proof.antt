@@ -67,7 +67,7 @@ returns c =
 pub put-report-spec : {M : Type 1} → statement M
 put-report-spec =
     tie.close
-    (tie.spec (λ c κs. search needs) (λ c κs. search needs) (λ c κs. search needs) (λ c κs. search needs) (λ c κs. search needs)
-    (λ c κs. omega (arith, long c, start c .pre .1)) (λ c. search needs) (λ c κs. search needs) (λ c κs. search needs) (λ c κs. search needs)
-    (λ c κs. search needs) (λ c κs. search needs) (λ c κs. start (to-at (created-at (c .before .before .before .before))) .pre .0 .reached)
-    put64-requires-3 (λ c. search needs) returns)
+    (tie.spec (search needs) (λ c. search needs) (λ c. search needs) (λ c. search needs) (search needs)
+    (λ c κs. omega (arith, long c, start c .pre .1)) (search needs) (search needs) (search needs) (search needs)
+    (search needs) (search needs) (λ c κs. start (to-at (created-at (c .before .before .before .before))) .pre .0 .reached)
+    put64-requires-3 (search needs) returns)

@@ -72,5 +72,5 @@ returns-3 c =
 pub report-spec : {M : Type 1} → statement M
 report-spec =
     tie.close
-    (tie.spec (λ c κs. search needs) returns (λ c κs. search needs) (λ c. search needs) (λ c κs. search needs) returns-2
-    put-report-requires (λ c κs. search needs) (λ c. search needs) returns-3)
+    (tie.spec (search needs) returns (λ c. search needs) (search needs) (search needs) returns-2
+    put-report-requires (search needs) (search needs) returns-3)

@@ -30,5 +30,5 @@ returns-2 c =
 pub progress-spec : {M : Type 1} → statement M
 progress-spec =
     tie.close
-    (tie.spec (λ c κs. search needs) (λ c κs. search needs) (λ c. search needs) (λ c. search needs) returns
-    (λ c κs. search needs) (λ c. search needs) send-due-requires (λ c. search needs) (λ c. search needs) returns-2)
+    (tie.spec (λ c. search needs) (λ c. search needs) (search needs) (search needs) returns
+    (λ c. search needs) (search needs) send-due-requires (search needs) (search needs) returns-2)

@@ -54,6 +54,6 @@ returns-4 c =
 pub send-wake-spec : {M : Type 1} → statement M
 send-wake-spec =
     tie.close
-    (tie.spec (λ c κs. found (c .before .before) .reached) (λ c. search needs) returns state-requires
-    put-init-requires (λ c. search needs) (λ c. search needs) returns-2
-    progress-requires (λ c. search needs) (λ c. search needs) returns-3 (λ c. search needs) returns-4)
+    (tie.spec (λ c κs. found (c .before .before) .reached) (search needs) returns state-requires
+    put-init-requires (search needs) (search needs) returns-2
+    progress-requires (search needs) (search needs) returns-3 (search needs) returns-4)

@@ -105,6 +105,6 @@ returns-4 c =
 pub wake-spec : {M : Type 1} → statement M
 wake-spec =
     tie.close
-    (tie.spec (λ c κs. search needs) (λ c κs. search needs) returns (λ c κs. search needs) (λ c κs. search needs) returns-2
-    (λ c κs. search needs) (λ c. search needs) (λ c κs. search needs) (λ c. search needs) returns-3
-    wake-record-requires (λ c κs. search needs) (λ c. search needs) (λ c. search needs) returns-4)
+    (tie.spec (search needs) (search needs) returns (search needs) (search needs) returns-2
+    (λ c. search needs) (search needs) (search needs) (search needs) returns-3
+    wake-record-requires (search needs) (search needs) (search needs) returns-4)

@@ -36,5 +36,5 @@ returns-2 c =
 pub wake-record-spec : {M : Type 1} → statement M
 wake-record-spec =
     tie.close
-    (tie.spec send-wake-requires (λ c. search needs) (λ c. search needs) returns
-    deadline-wake-requires (λ c. search needs) (λ c. search needs) returns-2)
+    (tie.spec send-wake-requires (search needs) (search needs) returns
+    deadline-wake-requires (search needs) (search needs) returns-2)

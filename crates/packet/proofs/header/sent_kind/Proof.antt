@@ -19,15 +19,21 @@ returns-4 c =
 
 returns-5 : tie.Need-returns-5
 returns-5 c =
-    let c3 = c .before .before .before in
-    let c4 = c3 .before in
-    simp (eq-eqb _ _ (c4 .if1 .left), eq-eqb _ _ (c3 .if2 .left), eq-eqb _ _ (c .before .before .if3 .left), eq-eqb _ _ (c .before .if4 .left), ne-eqb _ _ (c .if5 .taken))
+    let read = c .before in
+    let done = read .before in
+    let chunk = done .before in
+    let init = chunk .before in
+    simp
+    (eq-eqb _ _ (init .if1 .left), eq-eqb _ _ (chunk .if2 .left), eq-eqb _ _ (done .if3 .left), eq-eqb _ _ (read .if4 .left), ne-eqb _ _ (c .if5 .taken))
 
 returns-6 : tie.Need-returns-6
 returns-6 c =
-    let c3 = c .before .before .before in
-    let c4 = c3 .before in
-    simp (eq-eqb _ _ (c4 .if1 .left), eq-eqb _ _ (c3 .if2 .left), eq-eqb _ _ (c .before .before .if3 .left), eq-eqb _ _ (c .before .if4 .left), eq-eqb _ _ (c .if5 .left))
+    let read = c .before in
+    let done = read .before in
+    let chunk = done .before in
+    let init = chunk .before in
+    simp
+    (eq-eqb _ _ (init .if1 .left), eq-eqb _ _ (chunk .if2 .left), eq-eqb _ _ (done .if3 .left), eq-eqb _ _ (read .if4 .left), eq-eqb _ _ (c .if5 .left))
 
 pub sent-kind-spec : {M : Type 1} → statement M
 sent-kind-spec = tie.close (tie.spec returns returns-2 returns-3 returns-4 returns-5 returns-6)

@@ -21,7 +21,8 @@ id-long c = search needs
 returns : tie.Need-returns
 returns c =
     let fronted = c .before .before .before .before .before .before .before in
-    entry-is _ _ _ _ _ _ _ _ (room (fronted .before)) (length-init _ _ _ _ (id-long (fronted .before))) (fronted .put-front .ensures) (c .before .before .put .ensures)
+    let long = length-init _ _ _ _ (id-long (fronted .before)) in
+    entry-is _ _ _ _ _ _ _ _ (room (fronted .before)) long (fronted .put-front .ensures) (c .before .before .put .ensures)
 
 pub put-init-spec : {M : Type 1} → statement M
 put-init-spec =

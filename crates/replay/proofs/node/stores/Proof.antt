@@ -14,4 +14,5 @@ slice-aggregate-play-2 c = simp length-take (omega arith)
 pub stores-spec : {M : Type 1} → statement M
 stores-spec =
     tie.close
-    (tie.spec (λ c κs. search needs) (λ c κs. search needs) (λ c κs. search needs) (λ c. search needs) slice-aggregate-play (λ c. search needs) slice-aggregate-play-2 (λ c κs. search needs) (λ c. search needs))
+    (tie.spec (λ c κs. search needs) (λ c κs. search needs) (λ c κs. search needs) (λ c. search needs) slice-aggregate-play (λ c. search needs)
+    slice-aggregate-play-2 (λ c κs. search needs) (λ c. search needs))

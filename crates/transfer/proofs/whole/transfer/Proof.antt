@@ -11,4 +11,5 @@ slice-aggregate-sent c = simp length-take (omega arith)
 pub transfer-spec : {M : Type 1} → statement M
 transfer-spec =
     tie.close
-    (tie.spec (λ c. search needs) (λ c. search needs) slice-aggregate-sent (λ c. search needs) (λ c. search needs) (λ c. search needs) (λ c. search needs) (λ c. search needs) (λ c. search needs) (λ c. search needs) (λ c. search needs) (λ c. search needs))
+    (tie.spec (λ c. search needs) (λ c. search needs) slice-aggregate-sent (λ c. search needs) (λ c. search needs) (λ c. search needs)
+    (λ c. search needs) (λ c. search needs) (λ c. search needs) (λ c. search needs) (λ c. search needs) (λ c. search needs))

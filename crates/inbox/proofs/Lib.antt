@@ -1,3 +1,0 @@
-pub mod Chunks
-pub mod Takes
-pub mod Taken

@@ -1,6 +1,7 @@
 #!/usr/bin/env python3
 """Checks the papers, every *.md of the repository: no line over 110 columns outside tables and code; every relative link leads to a
-file or folder of the repository, and its #anchor to a heading. tests/papers runs it; the last line is 'N passed, M failed'.
+file or folder of the repository, and its #anchor to a heading. And the crates: no line of code over 130 columns, of a proof over 160, of a
+definition or law over 200. tests/papers runs it; the last line is 'N passed, M failed'.
 Use: tools/papers.py"""
 import pathlib
 import re
@@ -8,6 +9,8 @@ import sys
 
 ROOT = pathlib.Path(__file__).resolve().parent.parent
 COLUMNS = 110
+# the folders of a crate, the files there that are written by hand, and their columns
+CRATE_COLUMNS = (("src", ".rt", 130), ("proofs", ".antt", 160), ("specs", ".antt", 200))
 NOT_OURS = {"target", ".git"}
 
 
@@ -44,6 +47,14 @@ def long_lines(paper):
             yield f"{paper.relative_to(ROOT)}:{number}: {len(line)} columns"
 
 
+def long_code():
+    for folder, suffix, columns in CRATE_COLUMNS:
+        for file in sorted(ROOT.glob(f"crates/*/{folder}/**/*{suffix}")):
+            for number, line in enumerate(file.read_text().splitlines(), 1):
+                if len(line) > columns:
+                    yield f"{file.relative_to(ROOT)}:{number}: {len(line)} columns"
+
+
 def dead_links(paper):
     for number, line in prose(paper):
         for link in re.findall(r"\]\(([^)\s]+)\)", re.sub(r"`[^`]*`", "", line)):
@@ -60,12 +71,17 @@ def dead_links(paper):
 
 def main():
     passed = failed = 0
-    for what, find in ((f"no line over {COLUMNS} columns", long_lines), ("links", dead_links)):
-        faults = [fault for paper in papers() for fault in find(paper)]
+    checks = (
+        (f"papers: no line over {COLUMNS} columns", (fault for paper in papers() for fault in long_lines(paper))),
+        ("papers: links", (fault for paper in papers() for fault in dead_links(paper))),
+        ("crates: columns", long_code()),
+    )
+    for what, find in checks:
+        faults = list(find)
         print("".join(fault + "\n" for fault in faults), end="")
         failed += bool(faults)
         passed += not faults
-        print(f"papers: {what}: {'FAILED' if faults else 'ok'}")
+        print(f"{what}: {'FAILED' if faults else 'ok'}")
     print(f"{passed} passed, {failed} failed")
     return failed != 0
 

@@ -31,6 +31,4 @@ returns-2 c =
     done _ _ _ _ (number-is h _ (sym (asks-met (ended h) _ (held .if1 .left) ∙ clear))) (rw (own-key h (held .if1 .left)) at (drop .drop .ensures))
 
 pub abort-spec : {M : Type 1} → statement M
-abort-spec =
-    tie.close
-    (tie.spec (λ c. search needs) (search needs) (search needs) returns drop-requires (search needs) returns-2)
+abort-spec = tie.close (tie.spec (λ c. search needs) (search needs) (search needs) returns drop-requires (search needs) returns-2)

@@ -46,7 +46,7 @@ From n c = row (start (c .before)) ≡ refusal (drop n (tests (start (c .before)
 
 from9 : (c : tie.After-total) → From 0 c
 unfolding recOf
-from9 c = asks-met (start (c .before) .pre) _ (c .before .if1 .left) ∙ ap (λ (t : ℕ). refusal (tests (start (c .before)) t)) (sym (c .total .ensures))
+from9 c = rw (c .total .ensures) (asks-met (start (c .before) .pre) _ (c .before .if1 .left))
 
 from10 : (c : tie.Else2) → From 1 (c .before .before)
 from10 c = from9 (c .before .before) ∙ next _ _ _ (sym (c .before .fits2 .ensures) ∙ not-false _ (c .if2 .left))

@@ -38,6 +38,4 @@ returns-2 c =
     done _ _ _ _ (sym (accepted .if1 .left) ∙ number-is h _ e) (rw (held-key h _ e (accepted .if1 .left)) at (finish .finish .ensures))
 
 pub done-spec : {M : Type 1} → statement M
-done-spec =
-    tie.close
-    (tie.spec (λ c. search needs) (λ c κs. ended (searched (c .before))) (search needs) returns finish-requires (search needs) returns-2)
+done-spec = tie.close (tie.spec (λ c. search needs) (λ c κs. ended (searched (c .before))) (search needs) returns finish-requires (search needs) returns-2)

@@ -13,6 +13,4 @@ returns : tie.Need-returns
 returns c = c .equal .ensures ∙ ap (same (c .before .before .before .before .before .args .sum .now)) (c .before .before .sum-pieces .ensures)
 
 pub has-sum-spec : {M : Type 1} → statement M
-has-sum-spec =
-    tie.close
-    (tie.spec sum-pieces-requires (search needs) (search needs) returns)
+has-sum-spec = tie.close (tie.spec sum-pieces-requires (search needs) (search needs) returns)

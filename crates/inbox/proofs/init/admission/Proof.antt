@@ -15,6 +15,4 @@ returns-3 : tie.Need-returns-3
 returns-3 c = ap numberOf (sym (c .enum-told3 .given .1) ∙ c .before .before .admission .ensures)
 
 pub admission-spec : {M : Type 1} → statement M
-admission-spec =
-    tie.close
-    (tie.spec (search needs) (search needs) (search needs) (search needs) returns returns-2 returns-3)
+admission-spec = tie.close (tie.spec (search needs) (search needs) (search needs) (search needs) returns returns-2 returns-3)

@@ -61,6 +61,4 @@ returns-5 c =
     sym (from7 (past .before .before) ∙ stop _ _ _ (rw (eq-eqb _ 0 (none-held past)) (sym (free .is-free .ensures) ∙ c .if4 .left)))
 
 pub refusal-spec : {M : Type 1} → statement M
-refusal-spec =
-    tie.close
-    (tie.spec (λ c. search needs) returns returns-2 shared-slice-read-if3 returns-3 (λ c. search needs) returns-4 returns-5)
+refusal-spec = tie.close (tie.spec (λ c. search needs) returns returns-2 shared-slice-read-if3 returns-3 (λ c. search needs) returns-4 returns-5)

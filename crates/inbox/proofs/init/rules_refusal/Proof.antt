@@ -24,6 +24,4 @@ returns-2 : tie.Need-returns-2
 returns-2 c = c .admission .ensures ∙ rw (c .before .if1 .left) (book-is _ _ _)
 
 pub rules-refusal-spec : {M : Type 1} → statement M
-rules-refusal-spec =
-    tie.close
-    (tie.spec returns (search needs) returns-2)
+rules-refusal-spec = tie.close (tie.spec returns (search needs) returns-2)

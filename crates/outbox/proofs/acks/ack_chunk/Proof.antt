@@ -12,7 +12,7 @@ use Rattle.machine.specs.Receive.{found}
 use Rattle.machine.specs.Refusals.{refusal}
 use Rattle.machine.specs.Packet.{ackChunkRow}
 use Rattle.records.specs.HeldAt.{recIn}
-use Rattle.records.specs.RefuseLaws.{next, stop, clear}
+use Rattle.records.specs.RefuseLaws.{next, stop, clear, refused}
 use Rattle.records.specs.SearchLaws.{Search, ended, here, own-key, none-met, asks-met, number-is}
 use Rattle.outbox.specs.Leaves.{Here}
 use Rattle.outbox.specs.HereLaws as leaves
@@ -55,10 +55,8 @@ from19 c = from18 (met-at c) ∙ next _ _ _ (eq-eqb _ _ (sym (c .before .state .
 
 returns : tie.Need-returns
 returns c =
-    let at = c .before .before in
-    let h = searched at in
-    let e : row (start at) ≡ 8 = sym (number-is h _ (none-met (ended h) _ (c .if1 .taken))) in
-    rw e
+    let h = searched (c .before .before) in
+    refused _ _ _ _ (number-is h _ (none-met (ended h) _ (c .if1 .taken))) (λ e. omega arith)
 
 returns-2 : tie.Need-returns-2
 unfolding recOf

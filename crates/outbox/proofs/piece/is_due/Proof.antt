@@ -24,6 +24,4 @@ returns c =
     rw (c .passed .ensures, read .get64 .ensures, row .cell-at .ensures, stamp-is (a .send .now) (a .place), ← piece-state (a .send .now) (a .place))
 
 pub is-due-spec : {M : Type 1} → statement M
-is-due-spec =
-    tie.close
-    (tie.spec (search needs) (search needs) (search needs) (search needs) (search needs) (search needs) returns)
+is-due-spec = tie.close (tie.spec (search needs) (search needs) (search needs) (search needs) (search needs) (search needs) returns)

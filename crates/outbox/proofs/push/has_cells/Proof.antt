@@ -15,6 +15,4 @@ returns : tie.Need-returns
 returns c = λ i. leb (c .before .slots .ensures i) ((c .count-free .ensures .0 ∙ free-count (c .before .before .before .args .send .now)) i)
 
 pub has-cells-spec : {M : Type 1} → statement M
-has-cells-spec =
-    tie.close
-    (tie.spec (search needs) count-free-requires returns)
+has-cells-spec = tie.close (tie.spec (search needs) count-free-requires returns)

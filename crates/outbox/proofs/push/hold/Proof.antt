@@ -30,6 +30,4 @@ returns c =
     (cut .cut .ensures) (cut .before .before .first-place .ensures) (c .before .before .open-leaving .ensures)
 
 pub hold-spec : {M : Type 1} → statement M
-hold-spec =
-    tie.close
-    (tie.spec (λ c. search needs) (λ c κs. search needs) open-leaving-requires (search needs) returns)
+hold-spec = tie.close (tie.spec (λ c. search needs) (λ c κs. search needs) open-leaving-requires (search needs) returns)

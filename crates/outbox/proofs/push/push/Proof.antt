@@ -1,5 +1,5 @@
 -- The row refuses, or the message is held and its init is put. Assumes nothing.
-use Prim.Native.Nat.{ℕ, _+_, _≤_}
+use Prim.Native.Nat.{ℕ, _+_}
 use native.Mathlib.Omega.{arith}
 use mathlib.Core.Path.{_≡_, refl, sym, ap, _∙_}
 use mathlib.Core.Bool.{Bool}
@@ -46,10 +46,6 @@ clear c = sym (c .before .refusal .ensures) ∙ c .if1 .left
 passed : (c : tie.Else1) → Clear (tests (begun c))
 passed c = refusal-clear _ refl (clear c)
 
-end : (c : tie.Else1) → begun c .args .created + begun c .args .try-ms ≤ 18446744073709551615
-unfolding capacity
-end c = let a = begun c .args in omega (arith, ltb-true (a .created + a .try-ms) numberLimit (passed c .1 .1 .1 .0))
-
 -- a flag, as the label and as the packet has it
 flag-label : (x : Bool) → yes (one x) ≡ x
 flag-label x = cases x (λ e. rw e) (λ e. rw e)
@@ -68,6 +64,10 @@ returns c =
     let e = c .refuse .ensures in
     let asked = c .before .before in
     rw (← asked .refusal .ensures, ne-eqb (asked .refusal .result) 0 (c .before .if1 .taken), e .0, e .1, e .2)
+
+add-sent : tie.Need-add-sent
+unfolding capacity
+add-sent c = let a = begun c .args in omega (arith, ltb-true (a .created + a .try-ms) numberLimit (passed c .1 .1 .1 .0))
 
 hold-requires : tie.Need-hold-requires
 unfolding capacity
@@ -96,7 +96,7 @@ hold-requires c κs =
         free = ltb-true 0 _ (p .1 .1 .1 .1 .1 .0);
         cells = leb-true _ _ (p .1 .1 .1 .1 .1 .1 .0);
       },
-      (omega (arith, s .fits .created), omega (arith, end free)),
+      (omega (arith, s .fits .created), ltb-true _ _ (p .1 .1 .1 .0)),
     )
 
 put-init-requires : tie.Need-put-init-requires
@@ -120,5 +120,5 @@ returns-2 c =
 pub push-spec : {M : Type 1} → statement M
 push-spec =
     tie.close
-    (tie.spec (search needs) (λ c. search needs) (search needs) (search needs) returns (λ c. omega (arith, end c)) hold-requires put-init-requires
+    (tie.spec (search needs) (λ c. search needs) (search needs) (search needs) returns add-sent hold-requires put-init-requires
     (search needs) (search needs) (search needs) (search needs) (search needs) returns-2)

@@ -1,7 +1,6 @@
 -- The row, test by test; then the report on the record with the id. Assumes nothing.
 use Prim.Native.Nat.{ℕ}
 use mathlib.Core.Path.{_≡_, sym, _∙_}
-use mathlib.Core.List.{[]}
 use mathlib.Core.Option.{Option}
 use borrow.Author.Tests.{le-leb, lt-leb}
 use Rattle.machine.specs.Codes.{roleSend}
@@ -48,7 +47,7 @@ returns-2 : tie.Need-returns-2
 returns-2 c =
     let at = c .before .before .before in
     let h = searched at in
-    let e : row (start (at .before)) ≡ 8 = from8 (at .before) ∙ sym (number-is h _ (none-met (ended h) (λ r. []) (c .before .if2 .taken))) in
+    let e : row (start (at .before)) ≡ 8 = from8 (at .before) ∙ sym (number-is h _ (none-met (ended h) _ (c .before .if2 .taken))) in
     let r = c .refuse2 .ensures in
     rw (e, r .0, r .1, r .2)
 
@@ -65,7 +64,7 @@ returns-3 c =
     let some = there .if2 .left in
     let at = there .before .before in
     let h = searched at in
-    let e : row (start (at .before)) ≡ 0 = from8 (at .before) ∙ sym (number-is h _ (sym (asks-met (ended h) (λ r. []) some ∙ clear))) in
+    let e : row (start (at .before)) ≡ 0 = from8 (at .before) ∙ sym (number-is h _ (sym (asks-met (ended h) _ some ∙ clear))) in
     let r = c .sent .ensures in
     rw (e, found-some roleSend _ (h .bytes) (h .sound) _ _ (h .is) some, r .0, r .1, r .2, wrote .put-report .ensures)
 

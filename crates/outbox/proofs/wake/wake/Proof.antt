@@ -2,14 +2,12 @@
 use Prim.Native.Nat.{ℕ}
 use native.Mathlib.Omega.{arith}
 use mathlib.Core.Path.{_≡_, sym, _∙_}
-use mathlib.Core.List.{[]}
-use lib.ListN.{length, drop}
+use lib.ListN.{drop}
 use borrow.Author.Tests.{le-leb, lt-leb, not-true, not-false}
 use Rattle.machine.specs.Codes.{roleSend}
 use Rattle.machine.specs.Layout.{decode}
 use Rattle.machine.specs.Receive.{found}
 use Rattle.machine.specs.Refusals.{Refusals, refusal}
-use Rattle.machine.specs.Wake.{wakeRoom}
 use Rattle.records.specs.MetLaws.{found-some}
 use Rattle.records.specs.RefuseLaws.{next, stop, clear}
 use Rattle.records.specs.SearchLaws.{Search, ended, here, own-key, none-met, asks-met, number-is}
@@ -25,27 +23,23 @@ tests s = let a = s .args in wakeTests (a .kind) (a .run .now) (found (a .id .no
 abbrev row : tie.Start → ℕ
 row s = refusal (tests s)
 
--- there is such a kind: the row behind it
+-- the row from its n-th test on
+abbrev From : ℕ → tie.Start → Type 0
+From n s = row s ≡ refusal (drop n (tests s))
+
+-- there is such a kind
 abbrev start1 : tie.Else1 → tie.Start
 start1 c = c .before .before .before .before .before
 
-from2 : (c : tie.Else1) → row (start1 c) ≡ refusal (drop 1 (tests (start1 c)))
+from2 : (c : tie.Else1) → From 1 (start1 c)
 from2 c = next _ _ _ (sym (c .before .is-kind .ensures) ∙ not-false _ (c .if1 .left))
 
 -- the run has room
-abbrev need : tie.Start → ℕ
-need s = wakeRoom (s .args .kind)
-
-abbrev room : tie.Start → ℕ
-room s = length (s .args .run .now)
-
 abbrev start2 : tie.Else2 → tie.Start
 start2 c = start1 (c .before .before)
 
-from8 : (c : tie.Else2) → row (start2 c) ≡ refusal (drop 2 (tests (start2 c)))
-from8 c =
-    from2 (c .before .before)
-    ∙ next _ _ _ (le-leb (need (start2 c)) (room (start2 c)) (omega (arith, c .before .room .ensures, c .if2 .left)))
+from8 : (c : tie.Else2) → From 2 (start2 c)
+from8 c = from2 (c .before .before) ∙ next _ _ _ (le-leb _ _ (rw (c .before .room .ensures) at (c .if2 .left)))
 
 -- the search for the id
 abbrev room-at : tie.After-find-held → tie.Else2
@@ -69,9 +63,8 @@ returns c =
 returns-2 : tie.Need-returns-2
 returns-2 c =
     let asked = c .before .before in
-    let s = start1 (asked .before) in
-    let e : row s ≡ 2 =
-    from2 (asked .before) ∙ stop _ _ _ (lt-leb (need s) (room s) (omega (arith, asked .room .ensures, c .before .if2 .taken))) in
+    let short = rw (asked .room .ensures) at (c .before .if2 .taken) in
+    let e : row (start1 (asked .before)) ≡ 2 = from2 (asked .before) ∙ stop _ _ _ (lt-leb _ _ short) in
     let r = c .refuse2 .ensures in
     rw (e, r .0, r .1, r .2)
 
@@ -79,7 +72,7 @@ returns-3 : tie.Need-returns-3
 returns-3 c =
     let at = c .before .before .before in
     let h = searched at in
-    let e : row (start at) ≡ 8 = from8 (room-at at) ∙ sym (number-is h (λ r. []) (none-met (ended h) (λ r. []) (c .before .if3 .taken))) in
+    let e : row (start at) ≡ 8 = from8 (room-at at) ∙ sym (number-is h _ (none-met (ended h) _ (c .before .if3 .taken))) in
     let r = c .refuse3 .ensures in
     rw (e, r .0, r .1, r .2)
 
@@ -97,7 +90,7 @@ returns-4 c =
     let some = there .if3 .left in
     let at = there .before .before in
     let h = searched at in
-    let e : row (start at) ≡ 0 = from8 (room-at at) ∙ sym (number-is h (λ r. []) (sym (asks-met (ended h) (λ r. []) some ∙ clear))) in
+    let e : row (start at) ≡ 0 = from8 (room-at at) ∙ sym (number-is h _ (sym (asks-met (ended h) _ some ∙ clear))) in
     let w = rw (own-key h some, ← found-some roleSend _ (h .bytes) (h .sound) _ _ (h .is) some) at (woke .wake-record .ensures) in
     let r = c .sent .ensures in
     rw (e, r .0, r .1, r .2, w .starts .ends, w .store, w .starts .out)

@@ -34,7 +34,4 @@ returns-2 c =
     rw (ne-eqb (s .args .kind) sendWake (at .if1 .left), found-here (s .pre .0)) (woke .deadline-wake .ensures)
 
 pub wake-record-spec : {M : Type 1} → statement M
-wake-record-spec =
-    tie.close
-    (tie.spec send-wake-requires (search needs) (search needs) returns
-    deadline-wake-requires (search needs) (search needs) returns-2)
+wake-record-spec = tie.close (tie.spec send-wake-requires (search needs) (search needs) returns deadline-wake-requires (search needs) (search needs) returns-2)

@@ -4,6 +4,7 @@ import datetime
 import json
 import os
 import pathlib
+import statistics
 import subprocess
 import sys
 
@@ -27,14 +28,16 @@ SUMMED = "done"
 
 
 class Figures:
-    """The medians in criterion's folder, by group, function and value."""
+    """The medians in criterion's folder, by group, function and value; of what was run again, the median of all runs."""
 
     def __init__(self, folder):
         self.folder = pathlib.Path(folder)
 
     def find(self, *place):
-        file = self.folder.joinpath(*map(str, place), "new", "estimates.json")
-        return json.loads(file.read_text())["median"]["point_estimate"] if file.is_file() else None
+        runs = [self.folder, *sorted(self.folder.glob("again/*"))]
+        files = [run.joinpath(*map(str, place), "new", "estimates.json") for run in runs]
+        figures = [json.loads(file.read_text())["median"]["point_estimate"] for file in files if file.is_file()]
+        return statistics.median(figures) if figures else None
 
     def get(self, *place):
         figure = self.find(*place)
@@ -217,6 +220,8 @@ The scan asks whether as many bytes as both stores have are all zero, by joining
 Stopping at the first byte that is not zero reads {scans[0]:.1f} bytes per ns, one at a time;
 the bar is about the quicker one.
 Stores are copied anew before each call, outside the measured time.
+Where the allocator puts them makes up to a quarter of a call's time, and differs from process to process:
+calls and scans are run by three, and the median counts.
 The clock adds {ns(figures.get("clock", "nothing", 0))} ns to every figure of this part.
 
 {theirs}

@@ -210,7 +210,7 @@ def chunk(recv, frame):
         return 9
     if index > top_of(record["length"]):
         return 10
-    if size < 250 and index != top_of(record["length"]):
+    if size < 250 and index != top_of(record["length"]) and offset + size != record["length"]:
         return 11
     if index not in record["pieces"] and not free_cells(recv):
         return 12
@@ -452,8 +452,12 @@ def transfer():
             print(f"setup {role}" + said(refusal, [], 0))
     for n, length in enumerate((0, 1, 1300, 1550, 32500, 1301), 1):
         whole(nodes, n, n == 4, length)
-    print("deadlines of message 6")
-    key = (6).to_bytes(8, "big")
+    print("message 7 of 4 bytes, of which only the init comes")
+    key = (7).to_bytes(8, "big")
+    answer = push(nodes[TABLET]["send"], key, 0, TABLET, OFFICE, b"ducts", b"late", 5999, 30001)
+    print("push" + said(*answer))
+    deliver(nodes, answer[1])
+    show_report(nodes, key)
     for entry in deadline_at(nodes, key, 305999):
         arrive(nodes[OFFICE], *entry)
     wakes(nodes, key, 305999)
@@ -636,10 +640,15 @@ def chunks():
     b.packet("chunk, index 5, offset 1300, size 0", frame(1, CHUNK, 5, 1300, 0))
     b.packet("the same again", frame(1, CHUNK, 5, 1300, 0))
     b = Bench()
+    b.quiet(frame(1, INIT, 1300))
+    for index, offset, size in ((4, 1050, 249), (4, 1051, 249), (4, 1052, 249), (6, 1051, 249), (3, 1300, 0), (3, 1299, 0)):
+        b.packet(f"chunk, index {index}, offset {offset}, size {size}", frame(1, CHUNK, index, offset, size))
+    b = Bench()
     b.quiet(frame(1, INIT, 32500))
     for i in range(25):
         b.quiet(frame(1, CHUNK, i, 0, 250))
     b.packet("chunk at a new index, no cell free", frame(1, CHUNK, 25, 0, 250))
+    b.packet("chunk that ends the message, no cell free", frame(1, CHUNK, 25, 32499, 1))
     b.packet("chunk at a held index, no cell free", frame(1, CHUNK, 24, 0, 251))
     b.packet("init again", frame(1, INIT, 32500))
     b.packet("chunk at a new index", frame(1, CHUNK, 25, 0, 250))

@@ -29,12 +29,12 @@ fn fits(offset: u64, size: u64, total: u64) -> bool
     size <= total - offset
 }
 
-// Row 11: whether the piece is too short for where it stands.
+// Row 11: whether the piece, which ends inside the message, is too short for where it stands.
 fn too_short(total: u64, index: u64, offset: u64, size: u64) -> bool
-    requires { ⌜ total ≤ longest ⌝ }
+    requires { ⌜ (total ≤ longest) × (offset + size ≤ total) ⌝ }
     ensures { λ r. ⌜ r ≡ tooShort total index offset size ⌝ }
 {
-    (size < message::LEAST) & (index != message::top(total))
+    (size < message::LEAST) & (index != message::top(total)) & (offset + size != total)
 }
 
 // Row 12: whether there is a cell for the piece, its own or a free one.

@@ -77,9 +77,9 @@ initRow p s =
     rulesRow (isReply p) (p .from) (initTopic (p .frame)) (p .rules)
     ++ placeRow (asked p) (initLength (p .frame)) s (found (asked p) (s .held))
 
--- row 11: "size below 250, index not top"; it is handed the offset too, by which a last piece may be told
+-- row 11: "a size below 250, an index that is not top, and an end that is not the message's"
 unfoldable pub tooShort : ℕ → ℕ → ℕ → ℕ → Bool
-tooShort total index offset size = ltb size leastPiece && not (eqb index (topOf total))
+tooShort total index offset size = ltb size leastPiece && not (eqb index (topOf total)) && not (eqb (offset + size) total)
 
 -- row 12: "a piece at a new index 1, at a held index 0"
 abbrev pub cellsNeeded : ℕ → Rec → ℕ

@@ -82,8 +82,11 @@ starred =
     value (slots 0) 0 ∷ value (topOf 0) 0 ∷ value (latest (pieced 0 0 0 0)) 0 ∷ value (kept 0 0 0 0) 1 ∷ value (latest (counted 0)) wrongCount
     -- 1,300: slots 1, top 5
     ∷ value (slots 1300) 1 ∷ value (topOf 1300) 5
-    -- 1,301: slots 2; index 1, offset 1,300, size 1: 11
-    ∷ value (slots 1301) 2 ∷ value (latest (pieced 1301 1 1300 1)) shortPiece
+    -- 1,301: slots 2; index 1, offset 1,300, size 1 kept; at offset 1,299: 11; a size-0 piece 1 at the end is kept
+    ∷ value (slots 1301) 2 ∷ value (latest (pieced 1301 1 1300 1)) 0 ∷ value (kept 1301 1 1300 1) 1
+    ∷ value (latest (pieced 1301 1 1299 1)) shortPiece ∷ value (latest (pieced 1301 1 1301 0)) 0
+    -- 500: index 0, offset 251, size 249 kept; at offset 250: 11
+    ∷ value (latest (pieced 500 0 251 249)) 0 ∷ value (latest (pieced 500 0 250 249)) shortPiece
     -- 1,550: index 1, offset 1,300, size 250 kept
     ∷ value (latest (pieced 1550 1 1300 250)) 0 ∷ value (kept 1550 1 1300 250) 1
     -- 251: top 1; size 249, index 0, offset 0: 11

@@ -20,5 +20,5 @@ pub starred-hold : All (λ (v : Value). v .gives ≡ v .should) starred
 unfolding starred id frame init chunk address hear opened part be num same header chunkPacket donePacket kindOf sameKey rise sizes find swap
     without refusal putPiece initAt chunkAt kindRow recvStep tooShort
 starred-hold =
-    refl & refl & refl & refl & refl & refl & refl & refl & refl & refl & refl & refl & refl & refl & refl & refl & refl & refl & refl & refl & refl & refl
-    & tt
+    refl & refl & refl & refl & refl & refl & refl & refl & refl & refl & refl & refl & refl & refl & refl & refl
+    & refl & refl & refl & refl & refl & refl & refl & refl & refl & refl & refl & tt

@@ -21,6 +21,7 @@ pub mod Remarked
 pub mod SendValid
 pub mod Wake
 pub mod Cut
+pub mod CutKept
 pub mod Nth
 pub mod Leaving
 pub mod Push

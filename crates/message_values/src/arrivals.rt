@@ -55,6 +55,40 @@ pub(crate) fn chunks(recv: &mut [u8; 37140], send: &mut [u8; 37140]) {
     ask::frame(b"the same again", recv, send, &same);
 }
 
+// Short pieces of a message of 1,300 bytes, whose top index is 5: at its end, a byte before it and a byte past it.
+pub(crate) fn ends(recv: &mut [u8; 37140], send: &mut [u8; 37140]) {
+    make::fresh(recv, send);
+    make::quiet(recv, send, &make::frame(1, 0x80, 1300, 0, 0));
+    let before = make::frame(1, 0x10, 4, 1050, 249);
+    ask::frame(
+        b"chunk, index 4, offset 1050, size 249",
+        recv,
+        send,
+        &before,
+    );
+    let last = make::frame(1, 0x10, 4, 1051, 249);
+    ask::frame(b"chunk, index 4, offset 1051, size 249", recv, send, &last);
+    let past = make::frame(1, 0x10, 4, 1052, 249);
+    ask::frame(b"chunk, index 4, offset 1052, size 249", recv, send, &past);
+    let high = make::frame(1, 0x10, 6, 1051, 249);
+    ask::frame(b"chunk, index 6, offset 1051, size 249", recv, send, &high);
+    let empty = make::frame(1, 0x10, 3, 1300, 0);
+    ask::frame(b"chunk, index 3, offset 1300, size 0", recv, send, &empty);
+    let early = make::frame(1, 0x10, 3, 1299, 0);
+    ask::frame(b"chunk, index 3, offset 1299, size 0", recv, send, &early);
+}
+
+// The last byte of a message of 32,500 bytes with every cell taken.
+fn last(recv: &mut [u8; 37140], send: &mut [u8; 37140]) {
+    let chunk = make::frame(1, 0x10, 25, 32499, 1);
+    ask::frame(
+        b"chunk that ends the message, no cell free",
+        recv,
+        send,
+        &chunk,
+    );
+}
+
 // Chunks of a message of 32,500 bytes with every cell taken.
 pub(crate) fn cells(recv: &mut [u8; 37140], send: &mut [u8; 37140]) {
     make::fresh(recv, send);
@@ -66,6 +100,7 @@ pub(crate) fn cells(recv: &mut [u8; 37140], send: &mut [u8; 37140]) {
     }
     let next = make::frame(1, 0x10, 25, 0, 250);
     ask::frame(b"chunk at a new index, no cell free", recv, send, &next);
+    last(recv, send);
     let again = make::frame(1, 0x10, 24, 0, 251);
     ask::frame(b"chunk at a held index, no cell free", recv, send, &again);
     let restart = make::frame(1, 0x80, 32500, 0, 0);

@@ -36,6 +36,7 @@ fn main() {
     arrivals::inits(&mut recv, &mut send);
     arrivals::records(&mut recv, &mut send);
     arrivals::chunks(&mut recv, &mut send);
+    arrivals::ends(&mut recv, &mut send);
     arrivals::cells(&mut recv, &mut send);
     arrivals::dones(&mut recv, &mut send);
     arrivals::wholes(&mut recv, &mut send);

@@ -1,4 +1,4 @@
-// The end of a message that never becomes whole: its deadline wakes.
+// The end of a message that does not become whole: its deadline wakes.
 
 use crate::play;
 use crate::show;

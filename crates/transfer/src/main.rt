@@ -1,6 +1,6 @@
 // Plays whole transfers of messages between a tablet and an office, and writes a trace: each call's answer
-// and each packet. The last message never becomes whole, and ends at its deadline. tools/message_model.py
-// computes the same trace from PROTOCOL without this library.
+// and each packet. Of one more message only the init comes, and it ends at its deadline.
+// tools/message_model.py computes the same trace from PROTOCOL without this library.
 
 mod deadline;
 mod play;
@@ -69,7 +69,7 @@ fn transfers(
     }
 }
 
-// The deadlines of the last message.
+// A message that is announced and goes no further, up to its deadlines.
 fn deadlines(
     tablet_recv: &mut [u8],
     tablet_send: &mut [u8],
@@ -77,8 +77,17 @@ fn deadlines(
     office_send: &mut [u8],
     rules: &[u8],
 ) {
-    let id = [0, 0, 0, 0, 0, 0, 0, 6];
-    show::say(b"deadlines of message 6\n");
+    let id = [0, 0, 0, 0, 0, 0, 0, 7];
+    show::say(b"message 7 of 4 bytes, of which only the init comes\n");
+    whole::announce(
+        tablet_recv,
+        tablet_send,
+        office_recv,
+        office_send,
+        &id,
+        b"late",
+        rules,
+    );
     deadline::give_up(
         tablet_recv,
         tablet_send,

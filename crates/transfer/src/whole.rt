@@ -114,6 +114,31 @@ fn push(
     );
 }
 
+// A message is pushed, and no more of it is sent.
+pub(crate) fn announce(
+    tablet_recv: &mut [u8],
+    tablet_send: &mut [u8],
+    office_recv: &mut [u8],
+    office_send: &mut [u8],
+    id: &[u8; 8],
+    sent: &[u8],
+    rules: &[u8],
+) {
+    let mut run = [0u8; 310];
+    push(
+        tablet_recv,
+        tablet_send,
+        office_recv,
+        office_send,
+        id,
+        0,
+        sent,
+        rules,
+        &mut run,
+    );
+    play::report(tablet_send, id);
+}
+
 // A message is pushed, and the tablet wakes until it has nothing to send.
 fn send(
     tablet_recv: &mut [u8],

@@ -79,6 +79,18 @@ pub enum Call {
     Take,
 }
 
+impl Call {
+    /// The id that the call is about, if it is about one.
+    pub fn id(&self) -> Option<Id> {
+        match self {
+            Self::Push(push) => Some(push.id),
+            Self::Packet(packet) => Some(packet.id()),
+            Self::Wake(_, id, _) | Self::Report(id) => Some(*id),
+            Self::Rules(_) | Self::Known(_) | Self::Take => None,
+        }
+    }
+}
+
 /// How far a message is.
 #[derive(Clone, Debug, PartialEq, Eq)]
 pub struct Report {
@@ -111,6 +123,7 @@ pub enum Woke {
 }
 
 pub const UNKNOWN_ID: u64 = 8;
+pub const SHORT_PIECE: u64 = 11;
 pub const NO_WORK: u64 = 20;
 pub const TOPIC_TOO_LARGE: u64 = 21;
 pub const NONE_WHOLE: u64 = 23;
@@ -137,6 +150,18 @@ pub struct Got {
 }
 
 impl Got {
+    /// The same as what is expected of the same call; only a packet is asked about its wake mark.
+    pub fn expected(&self, call: &Call) -> Said {
+        let woke = if self.wake == 1 { Woke::Yes } else { Woke::No };
+        Said {
+            number: self.number,
+            packets: self.packets.clone(),
+            woke: matches!(call, Call::Packet(_)).then_some(woke),
+            report: self.report.clone(),
+            taken: self.taken.clone(),
+        }
+    }
+
     /// Whether the number is one that the original does not have: such a call is outside the comparison.
     pub fn is_added_refusal(&self) -> bool {
         matches!(self.number, 1..=3 | 6 | 7 | 12 | 22..=25)

@@ -8,7 +8,7 @@ use crate::replay::replay;
 pub const USAGE: &str = "usage:
   oracle [--seeds N] [--first SEED] [--steps N] [--fault NAME]
       compares with the original, N sequences of N steps each; a fault in what is expected must be found:
-      reply, report, take, wake, deadline, mark, refused or number
+      reply, report, take, wake, deadline, mark, refused, number, leave or stay
   oracle replay FILE...
       replays lists of what the original put out
   oracle record FOLDER
@@ -113,6 +113,9 @@ fn compare(options: &Options) -> Result<bool, String> {
     if let Err((seed, difference)) = compare::compare(&sequences, &mut coverage) {
         println!("# seed {seed}: {}", difference.why);
         println!("# the shortest beginning of its sequence that shows it; the last call differs:");
+        for left in &difference.left {
+            println!("# {left}; its calls are here with the library's own answers");
+        }
         print!("{}", difference.calls.write());
         println!("# a difference after {} calls that agree", coverage.calls());
         return Ok(false);
@@ -122,9 +125,14 @@ fn compare(options: &Options) -> Result<bool, String> {
     if !missing.is_empty() {
         println!("not met in this run: {}", missing.join(", "));
     }
+    let too_many_left = coverage.too_many_left();
+    if let Some(told) = &too_many_left {
+        println!("{told}");
+    }
     println!("{} calls compared in {} sequences, no difference", coverage.calls(), options.seeds);
     // a full run, or a longer one, that does not meet everything has not compared what it should
-    Ok(missing.is_empty() || options.seeds < SEEDS || options.steps < STEPS)
+    let whole = missing.is_empty() && too_many_left.is_none();
+    Ok(whole || options.seeds < SEEDS || options.steps < STEPS)
 }
 
 #[cfg(original)]

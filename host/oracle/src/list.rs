@@ -11,6 +11,8 @@ pub struct List {
     pub setup: Setup,
     pub address: Address,
     pub entries: Vec<Entry>,
+    /// Why there is no call after the last: a comment, so that reading a list leaves it out.
+    pub end: Option<String>,
 }
 
 /// A call and what the original put out for it.
@@ -36,6 +38,9 @@ impl List {
         .expect("text grows");
         for entry in &self.entries {
             write_entry(&mut text, entry);
+        }
+        if let Some(end) = &self.end {
+            writeln!(text, "# {end}").expect("text grows");
         }
         text
     }
@@ -133,7 +138,7 @@ fn read_node(words: &[&str]) -> Option<List> {
         ["node", key, address, recv, send] => {
             let setup =
                 Setup { key: array(key)?, recv_cells: recv.parse().ok()?, send_cells: send.parse().ok()? };
-            Some(List { setup, address: array(address)?, entries: Vec::new() })
+            Some(List { setup, address: array(address)?, entries: Vec::new(), end: None })
         }
         _ => None,
     }
@@ -344,9 +349,13 @@ mod tests {
             Entry { call: Call::Report([1; 8]), said: Said { report: Some(report), ..Said::default() } },
             Entry { call: Call::Take, said: Said { taken: Some(taken), ..Said::default() } },
         ];
-        let list =
-            List { setup: Setup { key: [1; 32], recv_cells: 45, send_cells: 1 }, address: [2; 16], entries };
-        assert_eq!(List::read(&list.write()), Ok(list));
+        let setup = Setup { key: [1; 32], recv_cells: 45, send_cells: 1 };
+        let mut list = List { setup, address: [2; 16], entries, end: Some("no more".to_string()) };
+        let text = list.write();
+        assert!(text.ends_with("\n# no more\n"), "{text}");
+        list.end = None;
+        assert_eq!(text.strip_suffix("# no more\n"), Some(&list.write()[..]));
+        assert_eq!(List::read(&text), Ok(list));
     }
 
     #[test]

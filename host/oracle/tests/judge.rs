@@ -46,7 +46,7 @@ mod with_the_original {
     const SEEDS: &str = "40";
 
     /// Each fault, with the call at which it must show.
-    const FAULTS: [(&str, &str); 8] = [
+    const FAULTS: [(&str, &str); 10] = [
         ("reply", "packet"),
         ("report", "report"),
         ("take", "take"),
@@ -55,7 +55,12 @@ mod with_the_original {
         ("mark", "packet"),
         ("refused", "packet"),
         ("number", "packet"),
+        ("leave", "packet"),
+        ("stay", "packet"),
     ];
+
+    /// How many sequences are searched for one in which an id leaves before a difference.
+    const SEARCHED: u64 = 400;
 
     fn file(name: &str, text: &str) -> PathBuf {
         let file = PathBuf::from(env!("CARGO_TARGET_TMPDIR")).join(name);
@@ -82,6 +87,8 @@ mod with_the_original {
         let calls: u64 =
             last.split(' ').next().and_then(|number| number.parse().ok()).expect("a number of calls");
         assert!(calls > 10_000, "{last}");
+        let left = text.lines().find(|line| line.contains(" ids left the comparison: ")).expect("who left");
+        assert!(left.contains(": C-11, a short last piece: ") && !left.starts_with("  0 of "), "{left}");
     }
 
     #[test]
@@ -94,15 +101,48 @@ mod with_the_original {
         }
     }
 
-    #[test]
-    fn a_difference_comes_with_the_shortest_beginning_that_shows_it() {
-        let (_, text) = oracle(&["--seeds", SEEDS, "--fault", "reply"]);
-        let shown = file("shown.txt", &text);
+    /// Whether what was printed differs at its last call, and not before.
+    fn differs_at_its_last_call(name: &str, text: &str) {
+        let shown = file(&format!("{name}.txt"), text);
         let (status, replayed) = oracle(&["replay", shown.to_str().expect("a name in text")]);
         assert_eq!(status, 1, "{replayed}");
-        let end = text.rfind(last_call(&text)).expect("the last call is in the list");
-        let before = file("before.txt", &text[..end]);
+        let end = text.rfind(last_call(text)).expect("the last call is in the list");
+        let before = file(&format!("{name}-before.txt"), &text[..end]);
         let (status, replayed) = oracle(&["replay", before.to_str().expect("a name in text")]);
         assert_eq!(status, 0, "{replayed}");
+    }
+
+    #[test]
+    fn a_difference_comes_with_the_shortest_beginning_that_shows_it() {
+        for fault in ["reply", "leave", "stay"] {
+            let (_, text) = oracle(&["--seeds", SEEDS, "--fault", fault]);
+            differs_at_its_last_call(fault, &text);
+        }
+    }
+
+    #[test]
+    fn it_does_so_after_an_id_has_left() {
+        let found = (1..=SEARCHED).find_map(|seed| {
+            let (_, text) = oracle(&["--seeds", "1", "--first", &seed.to_string(), "--fault", "take"]);
+            (text.starts_with("# seed ") && text.contains(" has left the comparison: ")).then_some(text)
+        });
+        let text = found.expect("an id leaves before a difference");
+        assert!(
+            text.contains("C-11, a short last piece; its calls are here with the library's own answers\n")
+        );
+        differs_at_its_last_call("left", &text);
+    }
+
+    #[test]
+    fn a_run_in_which_no_id_leaves_says_what_it_has_not_met() {
+        let (status, text) = oracle(&["--seeds", "1", "--steps", "1"]);
+        assert_eq!(status, 0, "{text}");
+        assert!(text.contains("  0 of ") && text.contains(" ids left the comparison\n"), "{text}");
+        let missing =
+            text.lines().find(|line| line.starts_with("not met in this run: ")).expect("what is missing");
+        assert!(
+            missing.ends_with("an id that leaves the comparison (C-11, a short last piece)"),
+            "{missing}"
+        );
     }
 }

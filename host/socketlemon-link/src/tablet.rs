@@ -27,9 +27,6 @@ const READ_WAIT: Duration = Duration::from_secs(2);
 /// After how long without an answer the user is told.
 const FIRST_WORD: Duration = Duration::from_secs(3);
 
-/// The office refuses a shorter piece unless it is the message's only one.
-const SHORTEST_PIECE: usize = 250;
-
 /// What the tablet is told.
 #[derive(Clone, Debug)]
 pub struct Send {
@@ -58,30 +55,19 @@ pub enum Ended {
     Read,
 }
 
-/// Reads a survey that can be sent: not too long, and of a length that can arrive.
+/// Reads a survey that can be sent: one that is not too long.
 pub fn read_survey(path: &Path) -> Result<Vec<u8>, Failure> {
     let failed = |error| Failure::file("read", path, &error);
     let file = File::open(path).map_err(failed)?;
     let mut survey = Vec::new();
     file.take(MOST_BYTES as u64 + 1).read_to_end(&mut survey).map_err(failed)?;
-    check_length(survey.len())
-        .map_err(|why| Failure::new(format!("{} cannot be sent: {why}", path.display())))?;
+    if survey.len() > MOST_BYTES {
+        return Err(Failure::new(format!(
+            "{} cannot be sent: it is longer than {MOST_BYTES} bytes, the most that a message can have",
+            path.display()
+        )));
+    }
     Ok(survey)
-}
-
-fn check_length(length: usize) -> Result<(), String> {
-    if length > MOST_BYTES {
-        return Err(format!("it is longer than {MOST_BYTES} bytes, the most that a message can have"));
-    }
-    let last = length % PIECE;
-    if length > PIECE && last != 0 && last < SHORTEST_PIECE {
-        return Err(format!(
-            "its {length} bytes are cut into pieces of {PIECE}, which leaves {last} for the last piece, and the office refuses a last piece below \
-             {SHORTEST_PIECE} bytes: add {} bytes or take {last} away",
-            SHORTEST_PIECE - last
-        ));
-    }
-    Ok(())
 }
 
 /// A survey on its way.
@@ -291,23 +277,4 @@ fn put(port: &mut Port, run: Run<'_>, to: SocketAddrV6) {
 
 fn millis(time: Duration) -> u64 {
     u64::try_from(time.as_millis()).unwrap_or(u64::MAX)
-}
-
-#[cfg(test)]
-mod tests {
-    use super::*;
-
-    #[test]
-    fn lengths_that_cannot_arrive_are_told() {
-        for length in [0, 1, 249, 250, 1_299, 1_300, 1_550, 2_600, 2_850, 32_499, 32_500] {
-            assert_eq!(check_length(length), Ok(()), "{length} bytes");
-        }
-        for length in [1_301, 1_549, 2_601, 2_849, 31_201, 31_449] {
-            let why = check_length(length).expect_err("a short last piece");
-            assert!(why.contains("below 250 bytes"), "{why}");
-            assert!(why.contains(&format!("leaves {} for the last piece", length % 1_300)), "{why}");
-        }
-        let why = check_length(32_501).expect_err("too long");
-        assert!(why.contains("longer than 32500 bytes"), "{why}");
-    }
 }

@@ -1,4 +1,5 @@
-//! Transfers of the longest survey in memory, over links as bad as the demo's, one for each seed.
+//! Transfers in memory, over links as bad as the demo's, one for each seed: of the longest survey,
+//! and of surveys whose last piece is of one byte.
 
 mod common;
 
@@ -145,17 +146,25 @@ fn arrives(seed: u64, data: &[u8], handle: Handle) -> bool {
     false
 }
 
-fn lost(handle: Handle) -> Vec<u64> {
-    let data = survey(MOST_BYTES, 0);
+/// The seeds for which a survey of this length does not arrive.
+fn lost(length: usize, handle: Handle) -> Vec<u64> {
+    let data = survey(length, 0);
     (0..SEEDS).filter(|seed| !arrives(*seed, &data, handle)).collect()
 }
 
 #[test]
 fn every_survey_arrives() {
-    assert_eq!(lost(inits::packet), []);
+    assert_eq!(lost(MOST_BYTES, inits::packet), []);
+}
+
+#[test]
+fn every_survey_with_a_short_last_piece_arrives() {
+    for length in [1_301, 2_601] {
+        assert_eq!(lost(length, inits::packet), [], "{} bytes", length);
+    }
 }
 
 #[test]
 fn the_calls_alone_lose_some() {
-    assert!(!lost(plain).is_empty(), "the seeds bring no init behind a chunk");
+    assert!(!lost(MOST_BYTES, plain).is_empty(), "the seeds bring no init behind a chunk");
 }

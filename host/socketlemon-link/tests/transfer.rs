@@ -6,15 +6,16 @@ use common::{assert_fails, introduce, run, survey, tablet, Folder, Office};
 use std::io::{BufRead, BufReader};
 use std::process::Stdio;
 
-#[test]
-fn surveys_arrive_over_a_bad_link() {
+/// Sends a survey of each length over a bad link; the office's files must be the same.
+fn arrive_over_a_bad_link(lengths: &[usize]) {
     let folder = Folder::new();
     introduce(&folder);
     let bad = ["--lose", "0.25", "--repeat", "0.2", "--reorder", "0.2"];
+    let count = lengths.len().to_string();
     let mut office =
-        Office::start(&folder, "[::1]:0", &[&bad[..], &["--seed", "11", "--count", "6"]].concat());
+        Office::start(&folder, "[::1]:0", &[&bad[..], &["--seed", "11", "--count", &count]].concat());
     let mut sent = Vec::new();
-    for (number, length) in [0, 1, 777, 1_550, 13_000, 32_500].into_iter().enumerate() {
+    for (number, &length) in lengths.iter().enumerate() {
         let data = survey(length, number);
         let file = folder.file("next", &data);
         let seed = number.to_string();
@@ -32,6 +33,17 @@ fn surveys_arrive_over_a_bad_link() {
     assert_eq!(office.end(), Some(0));
     sent.sort();
     assert!(folder.surveys() == sent, "the office's files are the tablet's");
+}
+
+#[test]
+fn surveys_arrive_over_a_bad_link() {
+    arrive_over_a_bad_link(&[0, 1, 777, 1_550, 13_000, 32_500]);
+}
+
+/// The last piece of each is of one byte, the longest such survey has 25 pieces.
+#[test]
+fn surveys_with_a_short_last_piece_arrive_over_a_bad_link() {
+    arrive_over_a_bad_link(&[1_301, 2_601, 31_201]);
 }
 
 #[test]

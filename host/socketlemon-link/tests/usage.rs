@@ -32,12 +32,6 @@ fn files_that_cannot_be_sent_are_told() {
     assert_fails(send("nowhere"), 1, &["cannot read nowhere"]);
     folder.file("long", &survey(32_501, 0));
     assert_fails(send("long"), 1, &["long cannot be sent", "longer than 32500 bytes"]);
-    folder.file("short", &survey(1_301, 0));
-    assert_fails(
-        send("short"),
-        1,
-        &["leaves 1 for the last piece", "below 250 bytes", "add 249 bytes or take 1 away"],
-    );
     folder.file("good", &survey(1_300, 0));
     folder.file("tablet.key", b"no key");
     assert_fails(send("good"), 1, &["tablet.key is not a key"]);

@@ -25,9 +25,9 @@ pub enum Refusal {
     UnknownId,
     /// 9: offset and size go past the length.
     PastEnd,
-    /// 10: the index is above the highest that is allowed.
+    /// 10: the index is above top, the highest that is allowed.
     HighIndex,
-    /// 11: a piece below 250 bytes that is not at the highest index.
+    /// 11: a piece below 250 bytes whose index is not top and that does not end the message.
     ShortPiece,
     /// 12: too few cells are free.
     NoCell,

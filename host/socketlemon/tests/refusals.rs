@@ -136,10 +136,35 @@ fn chunks() {
     assert_eq!(hand(&mut side, &stranger), Err(Refusal::UnknownId));
     assert_eq!(hand(&mut side, &chunk(0, 2, 1_300)), Err(Refusal::PastEnd));
     assert_eq!(hand(&mut side, &chunk(6, 0, 1_300)), Err(Refusal::HighIndex));
-    assert_eq!(hand(&mut side, &chunk(1, 1_300, 1)), Err(Refusal::ShortPiece));
+    assert_eq!(hand(&mut side, &chunk(1, 1_299, 1)), Err(Refusal::ShortPiece));
     assert_eq!(hand(&mut side, &chunk(0, 0, 1_300)), Ok(34 + 36));
     assert_eq!(hand(&mut side, &chunk(1, 0, 300)), Ok(34 + 36));
     assert_eq!(hand(&mut side, &chunk(2, 0, 300)), Err(Refusal::NoCell));
+}
+
+/// A piece below 250 bytes and below top is kept exactly where it ends the message.
+#[test]
+fn short_pieces() {
+    let length = 1_301;
+    for size in [0, 1, 249] {
+        let end = length - size;
+        let try_at = |offset| hand(&mut office(length), &packet(ID, CHUNK, &[1, offset, size], &[]));
+        assert_eq!(try_at(end - 1), Err(Refusal::ShortPiece), "{} bytes, one before the end", size);
+        assert_eq!(try_at(end), Ok(34 + 36), "{} bytes, at the end", size);
+        assert_eq!(try_at(end + 1), Err(Refusal::PastEnd), "{} bytes, one past the end", size);
+    }
+    let try_chunk =
+        |index, offset, size| hand(&mut office(length), &packet(ID, CHUNK, &[index, offset, size], &[]));
+    assert_eq!(try_chunk(4, 1_051, 249), Err(Refusal::ShortPiece), "just below top");
+    assert_eq!(try_chunk(5, 1_051, 249), Ok(34 + 36), "at top");
+    assert_eq!(try_chunk(4, 1_050, 250), Ok(34 + 36), "250 bytes");
+    assert_eq!(try_chunk(6, 1_300, 1), Err(Refusal::HighIndex), "above top, at the end");
+    let mut full = office(length);
+    for index in 0..2 {
+        assert_eq!(hand(&mut full, &packet(ID, CHUNK, &[index, 0, 300], &[])), Ok(34 + 36));
+    }
+    assert_eq!(hand(&mut full, &packet(ID, CHUNK, &[2, 1_300, 1], &[])), Err(Refusal::NoCell));
+    assert_eq!(hand(&mut full, &packet(ID, CHUNK, &[1, 1_300, 1], &[])), Ok(34 + 36), "at a held index");
 }
 
 #[test]

@@ -36,7 +36,7 @@ fn send(tablet: &mut Side, office: &mut Side, data: &[u8], lose: usize) -> u64 {
 
 #[test]
 fn messages_arrive_as_they_were() {
-    for length in [0, 1, 249, 250, 251, 1_300, 1_550, 2_600, 9_999, 32_500] {
+    for length in [0, 1, 249, 250, 251, 1_300, 1_301, 1_550, 2_600, 2_601, 9_999, 32_500] {
         for lose in [usize::MAX, 3] {
             let (mut tablet, mut office) = (Side::new(1, 25), Side::new(2, 25));
             let data = message(length);

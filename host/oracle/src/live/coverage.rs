@@ -4,6 +4,7 @@ use std::collections::{BTreeMap, BTreeSet};
 
 use crate::call::{Call, Said, Wake, Woke, TOPIC_TOO_LARGE};
 use crate::frame::{self, Kind};
+use crate::live::left::Listed;
 
 #[derive(Default)]
 pub struct Coverage {
@@ -18,6 +19,10 @@ pub struct Coverage {
     lengths: BTreeSet<usize>,
     /// Calls that lie outside what the original can be asked, by why; they are not compared.
     outside: BTreeMap<String, u64>,
+    /// Ids that were pushed or announced.
+    ids: u64,
+    /// Those of them that left the comparison, by why.
+    left: BTreeMap<Listed, u64>,
 }
 
 /// Lengths where the protocol's arithmetic turns.
@@ -48,14 +53,20 @@ const NEEDED: [&str; 21] = [
     "address",
 ];
 
+/// Of 100 ids, at most so many may leave the comparison of a full run: with more it compares too little.
+/// This is a little above what a full run has: 4.4.
+const MOST_LEFT: u64 = 5;
+
 impl Coverage {
     /// Takes over what another part of the run has met.
     pub fn join(&mut self, other: Coverage) {
-        let Coverage { calls, seen, numbers, flags, lengths, outside } = other;
+        let Coverage { calls, seen, numbers, flags, lengths, outside, ids, left } = other;
         add(&mut self.calls, calls);
         add(&mut self.seen, seen);
         add(&mut self.numbers, numbers);
         add(&mut self.outside, outside);
+        add(&mut self.left, left);
+        self.ids += ids;
         self.flags.extend(flags);
         self.lengths.extend(lengths);
     }
@@ -68,6 +79,16 @@ impl Coverage {
     /// A call was left out.
     pub fn outside(&mut self, why: String) {
         *self.outside.entry(why).or_default() += 1;
+    }
+
+    /// An id was pushed or announced for the first time.
+    pub fn id(&mut self) {
+        self.ids += 1;
+    }
+
+    /// An id left the comparison.
+    pub fn left(&mut self, why: Listed) {
+        *self.left.entry(why).or_default() += 1;
     }
 
     /// How many calls were compared.
@@ -137,7 +158,20 @@ impl Coverage {
                 .filter(|length| !self.lengths.contains(length))
                 .map(|length| format!("a message of {length} bytes taken")),
         );
+        missing.extend(
+            Listed::ALL
+                .iter()
+                .filter(|why| !self.left.contains_key(why))
+                .map(|why| format!("an id that leaves the comparison ({})", why.name())),
+        );
         missing
+    }
+
+    /// What a full run says if more ids left the comparison than may.
+    pub fn too_many_left(&self) -> Option<String> {
+        let left: u64 = self.left.values().sum();
+        (left * 100 > self.ids * MOST_LEFT)
+            .then(|| format!("{left} of {} ids left the comparison, more than {MOST_LEFT} in 100", self.ids))
     }
 
     /// The counts as text, a line each.
@@ -156,7 +190,15 @@ impl Coverage {
             self.flags.len(),
             self.lengths.len()
         ));
-        text + &format!("  packets by number: {numbers}\n  not compared: {outside}\n")
+        text + &format!("  packets by number: {numbers}\n  not compared: {outside}\n{}", self.left_line())
+    }
+
+    /// How many ids left the comparison, and why.
+    fn left_line(&self) -> String {
+        let left: u64 = self.left.values().sum();
+        let why: Vec<String> = self.left.iter().map(|(why, ids)| format!("{}: {ids}", why.name())).collect();
+        let sign = if why.is_empty() { "" } else { ": " };
+        format!("  {left} of {} ids left the comparison{sign}{}\n", self.ids, why.join("; "))
     }
 }
 
@@ -164,5 +206,39 @@ impl Coverage {
 fn add<T: Ord>(to: &mut BTreeMap<T, u64>, more: BTreeMap<T, u64>) {
     for (what, times) in more {
         *to.entry(what).or_default() += times;
+    }
+}
+
+#[cfg(test)]
+mod tests {
+    use super::*;
+
+    /// A run that met so many ids, of which so many left.
+    fn met(ids: u64, left: u64) -> Coverage {
+        let mut coverage = Coverage::default();
+        (0..ids).for_each(|_| coverage.id());
+        (0..left).for_each(|_| coverage.left(Listed::ShortLastPiece));
+        coverage
+    }
+
+    #[test]
+    fn too_many_ids_that_leave_are_told() {
+        assert_eq!(met(0, 0).too_many_left(), None);
+        assert_eq!(met(200, 2 * MOST_LEFT).too_many_left(), None);
+        let told = met(200, 2 * MOST_LEFT + 1).too_many_left().expect("one too many");
+        let (left, most) = (2 * MOST_LEFT + 1, MOST_LEFT);
+        assert_eq!(told, format!("{left} of 200 ids left the comparison, more than {most} in 100"));
+    }
+
+    #[test]
+    fn ids_that_leave_are_counted_over_all_parts() {
+        let mut coverage = met(3, 0);
+        let missing = "an id that leaves the comparison (C-11, a short last piece)".to_string();
+        assert_eq!(coverage.left_line(), "  0 of 3 ids left the comparison\n");
+        assert!(coverage.missing().contains(&missing));
+        coverage.join(met(4, 2));
+        assert!(!coverage.missing().contains(&missing));
+        let line = "  2 of 7 ids left the comparison: C-11, a short last piece: 2\n";
+        assert!(coverage.lines().ends_with(line), "{}", coverage.lines());
     }
 }

@@ -1,10 +1,11 @@
 //! Deliberate faults in what the judge is told to expect: each must be found.
 
-use crate::call::{Call, Packet, Said, Wake, Woke, ACK};
+use crate::call::{Call, Packet, Said, Wake, Woke, SHORT_PIECE};
+use crate::live::left::{acknowledged, Listed, Short};
+use crate::live::tally::Tally;
 
 const PAST_END: u64 = 9;
 const HIGH_INDEX: u64 = 10;
-const SHORT_PIECE: u64 = 11;
 
 /// A fault in the expectations.
 #[derive(Clone, Copy, Debug, PartialEq, Eq)]
@@ -25,10 +26,14 @@ pub enum Fault {
     Refused,
     /// A chunk past the end refused for its index.
     Number,
+    /// An id left out at every short piece below top, whether it ends its message or not.
+    Leave,
+    /// No id left out.
+    Stay,
 }
 
 /// Each fault by the name that the command line knows.
-pub const FAULTS: [(&str, Fault); 8] = [
+pub const FAULTS: [(&str, Fault); 10] = [
     ("reply", Fault::Reply),
     ("report", Fault::Report),
     ("take", Fault::Take),
@@ -37,6 +42,8 @@ pub const FAULTS: [(&str, Fault); 8] = [
     ("mark", Fault::Mark),
     ("refused", Fault::Refused),
     ("number", Fault::Number),
+    ("leave", Fault::Leave),
+    ("stay", Fault::Stay),
 ];
 
 impl Fault {
@@ -64,11 +71,13 @@ impl Fault {
             _ => {}
         }
     }
-}
 
-/// The reply to a chunk as if it had been kept.
-fn acknowledged(packet: &Packet) -> Packet {
-    let mut bytes = packet.bytes[..36].to_vec();
-    bytes[8] |= ACK;
-    Packet { from: packet.to, to: packet.from, bytes }
+    /// Spoils which listed difference treats a packet otherwise than the original.
+    pub fn mislead(self, packet: &Packet, tally: &Tally, listed: Option<Listed>) -> Option<Listed> {
+        match self {
+            Self::Leave => Short::of(packet, tally).map(|_| Listed::ShortLastPiece),
+            Self::Stay => None,
+            _ => listed,
+        }
+    }
 }

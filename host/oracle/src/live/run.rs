@@ -1,5 +1,7 @@
 //! Runs the library and the original side by side on a sequence of steps and compares each answer.
 
+use std::collections::BTreeSet;
+
 use crate::call::{Call, Got, Id, Packet, Said, Setup, Wake, Woke, ACK};
 use crate::frame::{self, Kind};
 use crate::judge::judge;
@@ -8,9 +10,12 @@ use crate::list::{Entry, List};
 use crate::live::clock;
 use crate::live::coverage::Coverage;
 use crate::live::fault::Fault;
+use crate::live::left::{Left, Listed};
 use crate::live::stack::{self, Original};
-use crate::live::tally::Tally;
+use crate::live::tally::{Due, Tally};
 use crate::live::words;
+
+mod unjudged;
 
 /// What is done to both sides.
 pub enum Step {
@@ -22,10 +27,11 @@ pub enum Step {
     Clock(u64),
 }
 
-/// A difference: what it is, and the calls up to it.
+/// A difference: what it is, the calls up to it, and a line about each id that had left.
 pub struct Difference {
     pub why: String,
-    pub calls: List,
+    pub calls: Box<List>,
+    pub left: Vec<String>,
 }
 
 /// Both sides of a sequence.
@@ -36,6 +42,14 @@ pub struct Run<'a> {
     pub tally: Tally,
     pub clock: u64,
     entries: Vec<Entry>,
+    /// The ids that were pushed or announced.
+    met: BTreeSet<Id>,
+    /// The ids that have left the comparison.
+    left: Left,
+    /// Where the calls end that are all compared, and why: there the first id left.
+    end: Option<(usize, Listed)>,
+    /// What the library put out in this step for ids that have left.
+    unjudged: Vec<Packet>,
     coverage: &'a mut Coverage,
     fault: Option<Fault>,
 }
@@ -52,7 +66,8 @@ impl<'a> Run<'a> {
         let theirs = stack::address(&setup.key);
         let failed = |why: String| Difference {
             why,
-            calls: List { setup: setup.clone(), address: theirs, entries: Vec::new() },
+            calls: Box::new(List { setup: setup.clone(), address: theirs, entries: Vec::new(), end: None }),
+            left: Vec::new(),
         };
         let node = Node::new(&setup).map_err(|number| failed(format!("setup is refused with {number}")))?;
         if node.address() != theirs {
@@ -63,17 +78,35 @@ impl<'a> Run<'a> {
         }
         coverage.saw("address");
         let (original, tally) = (Original::new(&setup), Tally::new(&setup));
-        Ok(Self { setup, node, original, tally, clock, entries: Vec::new(), coverage, fault })
+        Ok(Self {
+            setup,
+            node,
+            original,
+            tally,
+            clock,
+            entries: Vec::new(),
+            met: BTreeSet::new(),
+            left: Left::default(),
+            end: None,
+            unjudged: Vec::new(),
+            coverage,
+            fault,
+        })
     }
 
-    /// The calls so far, with what the original put out.
-    pub fn into_list(self) -> List {
-        List { address: self.node.address(), setup: self.setup, entries: self.entries }
+    /// The calls so far, with what the original put out; up to the one at which the first id left.
+    pub fn into_list(mut self) -> List {
+        let end = self.end.map(|(calls, why)| {
+            self.entries.truncate(calls);
+            format!("it ends here: the next call is treated otherwise than by the original ({})", why.name())
+        });
+        List { address: self.node.address(), setup: self.setup, entries: self.entries, end }
     }
 
-    /// Does a step on both sides and gives the packets that the original sent.
+    /// Does a step on both sides and gives the packets that go on the link.
+    /// They are the original's; for ids that have left, the library's.
     pub fn step(&mut self, step: Step) -> Result<Vec<Packet>, Difference> {
-        let sent = match step {
+        let mut sent = match step {
             Step::Call(call) => self.call(call),
             Step::Back(by, packet) => self.back(by, packet),
             Step::Clock(to) => self.clock(to),
@@ -82,6 +115,8 @@ impl<'a> Run<'a> {
         for id in leaving {
             self.report(id)?;
         }
+        sent.retain(|packet| !self.left.has(&packet.id()));
+        sent.append(&mut self.unjudged);
         Ok(sent)
     }
 
@@ -90,25 +125,18 @@ impl<'a> Run<'a> {
             self.coverage.outside("offset and size past 2^64".to_string());
             return Ok(Vec::new());
         }
+        if call.id().is_some_and(|id| self.left.has(&id)) {
+            return self.call_of_left(call);
+        }
+        if call == Call::Take {
+            self.throw_away_left();
+        }
+        let listed = self.listed(&call);
         let got = self.node.call(&call);
         if got.is_added_refusal() {
-            if !self.tally.has_reason(&call, got.number) {
-                return Err(self.differ(
-                    call,
-                    Said::default(),
-                    format!("the library answers {} without reason", got.number),
-                ));
-            }
-            self.coverage.outside(format!("answered {}", got.number));
-            return Ok(Vec::new());
+            return self.added_refusal(call, &got);
         }
-        let mut said = match (self.fault, &call) {
-            (Some(Fault::Take), Call::Take) if self.tally.whole.len() > 1 => {
-                self.original.call(&Call::Take);
-                self.original.call(&Call::Take)
-            }
-            _ => self.original.call(&call),
-        };
+        let mut said = self.ask_original(&call);
         let sent = said.packets.clone();
         let woken = match &call {
             Call::Packet(packet) => {
@@ -118,23 +146,67 @@ impl<'a> Run<'a> {
             }
             _ => Vec::new(),
         };
+        if let (Some(why), Call::Packet(packet)) = (listed, &call) {
+            said.packets = sent;
+            return self.leave(why, packet.clone(), &got, &said).map(|()| Vec::new());
+        }
         if let Some(fault) = self.fault {
             fault.spoil(&call, &mut said);
         }
-        let wake = got.wake == 1;
         self.keep(call.clone(), &got, said.clone())?;
-        match &call {
-            Call::Push(push) if said.number == 0 => self.tally.pushed(push, self.clock),
+        self.note(&call, &said);
+        if got.wake == 1 {
+            self.wake_all(&woken)?;
+        }
+        Ok(sent)
+    }
+
+    /// A refusal that the original does not have must have a reason, and is not compared.
+    fn added_refusal(&mut self, call: Call, got: &Got) -> Result<Vec<Packet>, Difference> {
+        if !self.tally.has_reason(&call, got.number) {
+            let why = format!("the library answers {} without reason", got.number);
+            return Err(self.differ(call, Said::default(), why));
+        }
+        self.coverage.outside(format!("answered {}", got.number));
+        Ok(Vec::new())
+    }
+
+    /// Makes a call of the original, or what a fault makes of it.
+    fn ask_original(&self, call: &Call) -> Said {
+        let compared = || self.tally.whole.keys().filter(|id| !self.left.has(id)).count();
+        match call {
+            Call::Take if self.fault == Some(Fault::Take) && compared() > 1 => {
+                self.take_from_original();
+                self.take_from_original()
+            }
+            Call::Take => self.take_from_original(),
+            _ => self.original.call(call),
+        }
+    }
+
+    /// Notes what a call that agrees has changed.
+    fn note(&mut self, call: &Call, said: &Said) {
+        match call {
+            Call::Push(push) if said.number == 0 => {
+                self.meet(push.id);
+                self.tally.pushed(push, self.clock);
+            }
             Call::Packet(packet) => {
-                self.tally.handled(packet, &said);
-                if wake {
-                    self.wake_all(&woken)?;
+                self.tally.handled(packet, said);
+                if self.tally.arriving.contains_key(&packet.id()) {
+                    self.meet(packet.id());
                 }
             }
             Call::Take => said.taken.iter().for_each(|taken| self.tally.taken(taken)),
             _ => {}
         }
-        Ok(sent)
+    }
+
+    /// An id that was pushed or announced is counted once.
+    fn meet(&mut self, id: Id) {
+        if self.met.insert(id) {
+            self.coverage.id();
+        }
     }
 
     /// Leaves the reply to a packet in what the original said, and gives what its senders sent after it; notes whether they woke, if that shows.
@@ -147,6 +219,7 @@ impl<'a> Run<'a> {
             self.tally
                 .leaving
                 .keys()
+                .filter(|id| !self.left.has(id))
                 .any(|id| !node.call(&Call::Wake(Wake::Send, *id, self.clock)).packets.is_empty())
         };
         said.woke = match (woken.is_empty(), self.tally.leaving.is_empty()) {
@@ -158,9 +231,11 @@ impl<'a> Run<'a> {
     }
 
     /// The messages that leave; what the original's senders sent must be of those.
+    /// For an id that has left the comparison, they may send anything.
     fn senders(&mut self, sent: &[Packet]) -> Result<Vec<Id>, Difference> {
         let ids: Vec<Id> = self.tally.leaving.keys().copied().collect();
-        match sent.iter().find(|packet| !ids.contains(&packet.id())) {
+        let astray = |packet: &&Packet| !ids.contains(&packet.id()) && !self.left.has(&packet.id());
+        match sent.iter().find(astray) {
             None => Ok(ids),
             Some(packet) => {
                 let said = Said { packets: vec![packet.clone()], ..Said::default() };
@@ -173,7 +248,11 @@ impl<'a> Run<'a> {
     /// Wakes every sender of the library, as the mark asks; the original's have sent `woken`.
     fn wake_all(&mut self, woken: &[Packet]) -> Result<(), Difference> {
         for id in self.senders(woken)? {
-            self.wake(Wake::Send, id, of(woken, &id))?;
+            if self.left.has(&id) {
+                self.wake_unjudged(Wake::Send, id);
+            } else {
+                self.wake(Wake::Send, id, of(woken, &id))?;
+            }
         }
         Ok(())
     }
@@ -196,45 +275,49 @@ impl<'a> Run<'a> {
         let sent = self.original.run();
         for id in self.senders(&sent)? {
             let due = self.tally.due(&id, to);
-            let mut pieces = of(&sent, &id);
-            let aborts = pieces.last().is_some_and(|p| frame::kind(p.flags()) == Kind::Aborted);
-            let aborted = pieces.split_off(pieces.len() - usize::from(aborts));
-            // Where both timers are due, the original picks either first: a sender that has timed out sends nothing more.
-            let send_first = due.tick && (due.deadlines == 0 || !pieces.is_empty());
-            if due.tick && due.deadlines > 0 {
-                self.coverage.saw(if send_first {
-                    "tick before deadline"
-                } else {
-                    "tick after deadline, or with nothing to send"
-                });
-            }
-            if send_first {
-                self.wake(Wake::Send, id, pieces)?;
-            } else if !pieces.is_empty() {
-                let why = "the original woke while its timers were not due".to_string();
-                return Err(self.differ(
-                    Call::Wake(Wake::Send, id, to),
-                    Said { packets: pieces, ..Said::default() },
-                    why,
-                ));
-            }
-            if due.deadlines == 0 && !aborted.is_empty() {
-                let why = "the original gave up while its deadline was not due".to_string();
-                return Err(self.differ(
-                    Call::Wake(Wake::Deadline, id, to),
-                    Said { packets: aborted, ..Said::default() },
-                    why,
-                ));
-            }
-            let mut aborted = Some(aborted);
-            for _ in 0..due.deadlines {
-                self.wake(Wake::Deadline, id, aborted.take().unwrap_or_default())?;
-            }
-            if due.deadlines > 0 && !self.tally.leaving.contains_key(&id) {
-                self.report(id)?;
+            if self.left.has(&id) {
+                self.timers_of_left(id, due);
+            } else {
+                self.timers(id, due, of(&sent, &id))?;
             }
         }
         Ok(sent)
+    }
+
+    /// Wakes the library's sender of a message by the timers that are due; the original's has sent these.
+    fn timers(&mut self, id: Id, due: Due, mut pieces: Vec<Packet>) -> Result<(), Difference> {
+        let aborts = pieces.last().is_some_and(|p| frame::kind(p.flags()) == Kind::Aborted);
+        let aborted = pieces.split_off(pieces.len() - usize::from(aborts));
+        // Where both timers are due, the original picks either first.
+        // A sender that has timed out sends nothing more.
+        let send_first = due.tick && (due.deadlines == 0 || !pieces.is_empty());
+        if due.tick && due.deadlines > 0 {
+            self.coverage.saw(if send_first {
+                "tick before deadline"
+            } else {
+                "tick after deadline, or with nothing to send"
+            });
+        }
+        if send_first {
+            self.wake(Wake::Send, id, pieces)?;
+        } else if !pieces.is_empty() {
+            let why = "the original woke while its timers were not due".to_string();
+            let said = Said { packets: pieces, ..Said::default() };
+            return Err(self.differ(Call::Wake(Wake::Send, id, self.clock), said, why));
+        }
+        if due.deadlines == 0 && !aborted.is_empty() {
+            let why = "the original gave up while its deadline was not due".to_string();
+            let said = Said { packets: aborted, ..Said::default() };
+            return Err(self.differ(Call::Wake(Wake::Deadline, id, self.clock), said, why));
+        }
+        let mut aborted = Some(aborted);
+        for _ in 0..due.deadlines {
+            self.wake(Wake::Deadline, id, aborted.take().unwrap_or_default())?;
+        }
+        if due.deadlines > 0 && !self.tally.leaving.contains_key(&id) {
+            self.report(id)?;
+        }
+        Ok(())
     }
 
     fn wake(&mut self, kind: Wake, id: Id, packets: Vec<Packet>) -> Result<(), Difference> {
@@ -247,8 +330,11 @@ impl<'a> Run<'a> {
         self.keep(call, &got, said)
     }
 
-    /// Compares the reports on a message, without a place in the list if they agree.
+    /// Compares the reports on a message, unless its id has left, without a place in the list if they agree.
     fn report(&mut self, id: Id) -> Result<(), Difference> {
+        if self.left.has(&id) {
+            return Ok(());
+        }
         let call = Call::Report(id);
         let (got, mut said) = (self.node.call(&call), self.original.call(&call));
         if let Some(fault) = self.fault {
@@ -278,7 +364,9 @@ impl<'a> Run<'a> {
     fn differ(&mut self, call: Call, said: Said, why: String) -> Difference {
         let mut entries = std::mem::take(&mut self.entries);
         entries.push(Entry { call, said });
-        Difference { why, calls: List { address: self.node.address(), setup: self.setup.clone(), entries } }
+        let (address, setup) = (self.node.address(), self.setup.clone());
+        let calls = Box::new(List { address, setup, entries, end: None });
+        Difference { why, calls, left: self.left.lines() }
     }
 }
 

@@ -1,4 +1,5 @@
-//! What the comparison itself knows of a node, from the original's answers alone: which messages leave, arrive and are whole, and when timers are due.
+//! What the comparison itself knows of a node: which messages leave, arrive and are whole, and when timers
+//! are due. It knows this from the original's answers alone; of ids that have left, from the library's.
 //! A refusal that the original does not have must have its reason here.
 
 use std::collections::BTreeMap;
@@ -7,7 +8,8 @@ use crate::call::{Call, Id, Packet, Push, Said, Setup, Taken, ACK, UNKNOWN_ID};
 use crate::frame::{self, Kind};
 
 const RECORDS: usize = 8;
-const LONGEST: u64 = 32_500;
+/// The longest message in the domain of the comparison.
+pub const LONGEST: u64 = 32_500;
 const CUT: usize = 1300;
 const TICK: u64 = 100;
 const DEADLINE: u64 = 300_000;
@@ -134,7 +136,7 @@ impl Tally {
         self.leaving.insert(push.id, new);
     }
 
-    /// A packet that came in, and what the original put out for it.
+    /// A packet that came in, and what was put out for it.
     pub fn handled(&mut self, packet: &Packet, said: &Said) {
         let (id, frame) = (packet.id(), &packet.bytes);
         if packet.flags() & ACK != 0 {

@@ -2,11 +2,11 @@
 use Prim.Native.Nat.{ℕ, _+_, _≤_}
 use native.Mathlib.Omega.{arith}
 use mathlib.Core.Path.{_≡_, sym, ap, _∙_}
-use mathlib.Core.Bool.{not}
+use mathlib.Core.Bool.{true, not}
 use mathlib.Core.List.{[], _∷_}
 use lib.ListN.{drop}
 use lib.Dec.{leb}
-use borrow.Author.Tests.{le-leb, lt-leb, not-true, not-false}
+use borrow.Author.Tests.{le-leb, lt-leb, leb-true, not-true, not-false}
 use Rattle.octets.specs.Octets.{Bytes}
 use Rattle.machine.specs.Limits.{longest, topOf}
 use Rattle.machine.specs.Codes.{roleReceive}
@@ -48,8 +48,11 @@ from9 : (c : tie.After-total) → From 0 c
 unfolding recOf
 from9 c = rw (c .total .ensures) (asks-met (start (c .before) .pre) _ (c .before .if1 .left))
 
+inside : (c : tie.Else2) → let a = start (c .before .before .before) .args in leb (a .offset + a .size) (c .before .before .total .result) ≡ true
+inside c = sym (c .before .fits2 .ensures) ∙ not-false _ (c .if2 .left)
+
 from10 : (c : tie.Else2) → From 1 (c .before .before)
-from10 c = from9 (c .before .before) ∙ next _ _ _ (sym (c .before .fits2 .ensures) ∙ not-false _ (c .if2 .left))
+from10 c = from9 (c .before .before) ∙ next _ _ _ (inside c)
 
 from11 : (c : tie.Else3) → From 2 (c .before .before .before .before)
 from11 c = from10 (c .before .before) ∙ next _ _ _ (ap (leb _) (sym (c .before .top .ensures .0)) ∙ le-leb _ _ (c .if3 .left))
@@ -71,6 +74,9 @@ returns-2 c = sym (from9 (c .before .before) ∙ stop _ _ _ (sym (c .before .fit
 returns-3 : tie.Need-returns-3
 returns-3 c = sym (from10 (c .before .before) ∙ stop _ _ _ (ap (leb _) (sym (c .before .top .ensures .0)) ∙ lt-leb _ _ (c .if3 .taken)))
 
+too-short-requires : tie.Need-too-short-requires
+too-short-requires c κs = (longest-is (c .before .before .before .before), leb-true _ _ (inside (c .before .before)))
+
 returns-4 : tie.Need-returns-4
 returns-4 c = sym (from11 (c .before .before) ∙ stop _ _ _ (ap not (sym (c .before .too-short .ensures) ∙ c .if4 .taken)))
 
@@ -81,4 +87,4 @@ pub refusal-spec : {M : Type 1} → statement M
 refusal-spec =
     tie.close
     (tie.spec shared-slice-read-if1 returns (λ c κs. here-reached _ _ (bytes c) _ (held c)) (search needs) returns-2
-    (λ c κs. longest-is (c .before .before)) returns-3 (λ c κs. longest-is (c .before .before .before .before)) returns-4 returns-5)
+    (λ c κs. longest-is (c .before .before)) returns-3 too-short-requires returns-4 returns-5)

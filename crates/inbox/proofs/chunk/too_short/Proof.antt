@@ -9,4 +9,4 @@ unfolding tooShort
 returns c = rw (c .top .ensures .0)
 
 pub too-short-spec : {M : Type 1} → statement M
-too-short-spec = tie.close (tie.spec (search needs) returns)
+too-short-spec = tie.close (tie.spec (search needs) (search needs) returns)

@@ -1,0 +1,335 @@
+//! What is done for ids that have left the comparison.
+//! Both sides get their packets, and nothing of them is judged.
+
+use super::{of, Difference, Run};
+use crate::call::{Call, Got, Id, Packet, Said, Taken, Wake, ACK};
+use crate::frame::{self, Kind};
+use crate::judge::judge;
+use crate::list::Entry;
+use crate::live::left::Listed;
+use crate::live::tally::{Due, LONGEST};
+use crate::live::words;
+
+/// Why a call of an id that has left is not compared.
+const OF_LEFT: &str = "of an id that has left";
+
+impl Run<'_> {
+    /// The listed difference that treats a call otherwise than the original.
+    pub(super) fn listed(&self, call: &Call) -> Option<Listed> {
+        let Call::Packet(packet) = call else {
+            return None;
+        };
+        let listed = Listed::of(packet, &self.tally);
+        self.fault.map_or(listed, |fault| fault.mislead(packet, &self.tally, listed))
+    }
+
+    /// The id of a packet leaves the comparison, if the two have differed as it is listed.
+    pub(super) fn leave(
+        &mut self,
+        why: Listed,
+        packet: Packet,
+        got: &Got,
+        said: &Said,
+    ) -> Result<(), Difference> {
+        let (id, asked) = (packet.id(), why.asked(&packet));
+        let call = Call::Packet(packet);
+        if judge(got, &asked).is_err() || !why.is_from(said) {
+            let why = format!(
+                "left out ({}), though the library answers {} and the original {}",
+                why.name(),
+                got.number,
+                said.number
+            );
+            return Err(self.differ(call, asked, why));
+        }
+        self.end.get_or_insert((self.entries.len(), why));
+        self.left.add(id, why);
+        self.coverage.left(why);
+        self.keep_unjudged(call, got);
+        Ok(())
+    }
+
+    /// A call of an id that has left: a packet goes to both sides, any other call is left out.
+    pub(super) fn call_of_left(&mut self, call: Call) -> Result<Vec<Packet>, Difference> {
+        let Call::Packet(packet) = &call else {
+            self.coverage.outside(OF_LEFT.to_string());
+            return Ok(Vec::new());
+        };
+        let got = self.node.call(&call);
+        let in_domain = !got.is_added_refusal() && !is_too_long(packet);
+        let mut woken = if in_domain { self.original.call(&call).packets } else { Vec::new() };
+        words::last_refusal();
+        woken.retain(|packet| !self.left.has(&packet.id()));
+        self.keep_unjudged(call, &got);
+        let senders = self.senders(&woken)?;
+        let (left, others): (Vec<Id>, Vec<Id>) = senders.into_iter().partition(|id| self.left.has(id));
+        // Only the original says whether the others woke; it shows where one of them had something to send.
+        if !woken.is_empty() {
+            others.into_iter().try_for_each(|id| self.wake(Wake::Send, id, of(&woken, &id)))?;
+        }
+        if got.wake == 1 {
+            left.into_iter().for_each(|id| self.wake_unjudged(Wake::Send, id));
+        }
+        Ok(woken)
+    }
+
+    /// Takes the messages of ids that have left out of the library, in front of a take that is compared.
+    pub(super) fn throw_away_left(&mut self) {
+        while !self.left.is_empty() {
+            let mut after = self.node.clone();
+            let got = after.call(&Call::Take);
+            if !self.is_of_left(&got.taken) {
+                break;
+            }
+            self.node = after;
+            self.keep_unjudged(Call::Take, &got);
+        }
+    }
+
+    /// Takes the oldest message from the original that is not of an id that has left.
+    pub(super) fn take_from_original(&self) -> Said {
+        loop {
+            let said = self.original.call(&Call::Take);
+            if !self.is_of_left(&said.taken) {
+                return said;
+            }
+        }
+    }
+
+    fn is_of_left(&self, taken: &Option<Taken>) -> bool {
+        taken.as_ref().is_some_and(|taken| self.left.has(&taken.id))
+    }
+
+    /// Wakes the library's sender of an id that has left, by the timers that are due.
+    pub(super) fn timers_of_left(&mut self, id: Id, due: Due) {
+        if due.tick {
+            self.wake_unjudged(Wake::Send, id);
+        }
+        (0..due.deadlines).for_each(|_| self.wake_unjudged(Wake::Deadline, id));
+    }
+
+    /// Wakes the library's sender of an id that has left.
+    pub(super) fn wake_unjudged(&mut self, kind: Wake, id: Id) {
+        let call = Call::Wake(kind, id, self.clock);
+        let got = self.node.call(&call);
+        self.keep_unjudged(call, &got);
+    }
+
+    /// Keeps a call of an id that has left in list and tally, with what the library itself answered.
+    fn keep_unjudged(&mut self, call: Call, got: &Got) {
+        let said = got.expected(&call);
+        self.coverage.outside(OF_LEFT.to_string());
+        self.unjudged.extend(got.packets.iter().cloned());
+        self.note(&call, &said);
+        self.entries.push(Entry { call, said });
+    }
+}
+
+/// Whether a packet is an init of a length that the original is never asked to take.
+fn is_too_long(packet: &Packet) -> bool {
+    let is_init = packet.flags() & ACK == 0 && frame::kind(packet.flags()) == Kind::Init;
+    is_init && frame::field(&packet.bytes, 0) > LONGEST
+}
+
+#[cfg(test)]
+mod tests {
+    use super::*;
+    use crate::call::{Push, Setup, Woke, FRAME, MOST_CELLS};
+    use crate::list::List;
+    use crate::live::clock;
+    use crate::live::coverage::Coverage;
+    use crate::live::run::Step;
+    use crate::replay::replay;
+
+    const START: u64 = 1_000_000;
+    const PEER: [u8; 16] = [9; 16];
+    /// An id that has left, and one that has not.
+    const LEFT: Id = [1; 8];
+    const OTHER: Id = [2; 8];
+
+    /// Runs a test on both sides fresh. All calls that were made must then replay.
+    /// Gives the list that is kept of them.
+    fn with_run(test: impl FnOnce(&mut Run<'_>)) -> List {
+        let setup = Setup { key: [7; 32], recv_cells: MOST_CELLS, send_cells: MOST_CELLS };
+        let mut coverage = Coverage::default();
+        let mut run = Run::new(setup, START, &mut coverage, None).unwrap_or_else(|d| panic!("{}", d.why));
+        call(&mut run, Call::Known([PEER].into()));
+        test(&mut run);
+        let (setup, address, entries) = (run.setup.clone(), run.node.address(), run.entries.clone());
+        let calls = entries.len();
+        assert_eq!(replay(&List { setup, address, entries, end: None }), Ok(calls));
+        clock::release();
+        run.into_list()
+    }
+
+    fn step(run: &mut Run<'_>, step: Step) -> Vec<Packet> {
+        run.step(step).unwrap_or_else(|difference| panic!("{}", difference.why))
+    }
+
+    fn call(run: &mut Run<'_>, call: Call) -> Vec<Packet> {
+        step(run, Step::Call(call))
+    }
+
+    fn packet(mut bytes: Vec<u8>) -> Call {
+        bytes.resize(FRAME, 0);
+        Call::Packet(Packet { from: PEER, to: [8; 16], bytes })
+    }
+
+    fn push(id: Id) -> Call {
+        let (topic, data) = (Vec::new(), vec![5; 2_600]);
+        Call::Push(Push { id, reply: false, to: PEER, topic, data, created: 1_000, try_ms: 1 })
+    }
+
+    /// Of how many pieces of a message the packets are.
+    fn pieces(packets: &[Packet], id: Id) -> usize {
+        packets.iter().filter(|p| p.id() == id && frame::kind(p.flags()) == Kind::Chunk).count()
+    }
+
+    #[test]
+    fn a_list_ends_where_an_id_leaves() {
+        let list = with_run(|run| {
+            call(run, packet(frame::init(LEFT, 0, 1_301, &[])));
+            let calls = run.entries.len();
+            let acknowledged = call(run, packet(frame::chunk(LEFT, 0, 1, 1_300, 1, &[3])));
+            assert_eq!(acknowledged.len(), 1, "the library's reply goes on the link");
+            assert!(run.left.has(&LEFT) && run.tally.arriving[&LEFT].pieces.len() == 1);
+            assert_eq!(run.end, Some((calls, Listed::ShortLastPiece)));
+            call(run, packet(frame::chunk(LEFT, 0, 0, 0, 1_300, &[4; 1_300])));
+            assert_eq!(run.entries.len(), calls + 2);
+        });
+        assert_eq!(list.entries.len(), 2);
+        assert!(list.end.is_some_and(|why| why.ends_with("(C-11, a short last piece)")));
+        let list = with_run(|run| drop(call(run, packet(frame::init(LEFT, 0, 1_301, &[])))));
+        assert_eq!((list.entries.len(), list.end), (2, None));
+    }
+
+    /// A call that only the library gets.
+    fn library_alone(run: &mut Run<'_>, call: Call) {
+        let got = run.node.call(&call);
+        run.keep_unjudged(call, &got);
+    }
+
+    /// A call that only the original gets.
+    fn original_alone(run: &mut Run<'_>, call: Call) {
+        run.original.call(&call);
+        words::last_refusal();
+    }
+
+    /// Both are pushed, one side alone hears that the init of `LEFT` arrived, then that a piece of it did.
+    /// The pieces of `OTHER` are due then, between two ticks.
+    /// Gives how many are sent then, and how many at the next tick.
+    fn sent_after(alone: fn(&mut Run<'_>, Call)) -> [usize; 2] {
+        let mut sent = [0; 2];
+        with_run(|run| {
+            call(run, push(LEFT));
+            call(run, push(OTHER));
+            run.left.add(LEFT, Listed::ShortLastPiece);
+            alone(run, packet(frame::init(LEFT, ACK, 0, &[])));
+            step(run, Step::Clock(START + 50));
+            assert_eq!(pieces(&call(run, packet(frame::init(OTHER, ACK, 0, &[]))), OTHER), 2);
+            step(run, Step::Clock(START + 100));
+            step(run, Step::Clock(START + 150));
+            let after = call(run, packet(frame::chunk(LEFT, ACK, 0, 0, 0, &[])));
+            sent = [after, step(run, Step::Clock(START + 200))].map(|packets| pieces(&packets, OTHER));
+        });
+        sent
+    }
+
+    #[test]
+    fn others_wake_where_only_the_original_says_so() {
+        assert_eq!(sent_after(original_alone), [2, 0]);
+    }
+
+    #[test]
+    fn others_sleep_on_where_only_the_library_says_so() {
+        assert_eq!(sent_after(library_alone), [0, 2]);
+    }
+
+    #[test]
+    fn the_original_may_send_what_it_likes_for_what_has_left() {
+        with_run(|run| {
+            run.left.add(LEFT, Listed::ShortLastPiece);
+            original_alone(run, push(LEFT));
+            assert_eq!(step(run, Step::Clock(START + 100)), []);
+        });
+    }
+
+    /// The library's sender of `LEFT` would send its init, the original's has just sent its pieces.
+    #[test]
+    fn what_has_left_does_not_show_that_senders_slept_on() {
+        with_run(|run| {
+            call(run, push(LEFT));
+            call(run, push(OTHER));
+            run.left.add(LEFT, Listed::ShortLastPiece);
+            original_alone(run, packet(frame::init(LEFT, ACK, 0, &[])));
+            call(run, packet(frame::init(OTHER, ACK, 0, &[])));
+            call(run, packet(frame::chunk(OTHER, ACK, 0, 0, 0, &[])));
+            assert_eq!(
+                run.entries.iter().filter_map(|entry| entry.said.woke).next_back(),
+                Some(Woke::Unseen)
+            );
+        });
+    }
+
+    /// An init and a done of a message without bytes.
+    fn whole(id: Id) -> [Call; 2] {
+        let sum = blake3::hash(&[]);
+        [packet(frame::init(id, 0, 0, &[])), packet(frame::done(id, 0, 0, sum.as_bytes()))]
+    }
+
+    /// The ids of the messages that the packets say were read.
+    fn read(packets: &[Packet]) -> Vec<Id> {
+        packets.iter().filter(|p| p.flags() == frame::READ).map(Packet::id).collect()
+    }
+
+    #[test]
+    fn a_take_passes_over_what_has_left() {
+        for alone in [library_alone, original_alone] {
+            with_run(|run| {
+                run.left.add(LEFT, Listed::ShortLastPiece);
+                for packet in whole(LEFT) {
+                    alone(run, packet);
+                }
+                for packet in whole(OTHER) {
+                    call(run, packet);
+                }
+                let in_library = run.tally.whole.contains_key(&LEFT);
+                let thrown_away = if in_library { vec![OTHER, LEFT] } else { vec![OTHER] };
+                assert_eq!(read(&call(run, Call::Take)), thrown_away);
+                assert!(run.tally.whole.is_empty());
+                assert_eq!(call(run, Call::Take), [], "there is no more to take");
+            });
+        }
+    }
+
+    #[test]
+    fn an_id_is_out_in_both_stores() {
+        with_run(|run| {
+            run.left.add(LEFT, Listed::ShortLastPiece);
+            assert_eq!(call(run, push(LEFT)), []);
+            assert!(run.tally.leaving.is_empty());
+            assert_eq!(call(run, Call::Report(LEFT)), []);
+            // what the original could not take: the library refuses it for another reason
+            for packet in whole(LEFT) {
+                library_alone(run, packet);
+            }
+            run.unjudged.clear();
+            assert_eq!(call(run, packet(frame::init(LEFT, 0, u64::MAX, &[]))), []);
+            assert_eq!(call(run, packet(frame::init(OTHER, 0, 9, &[]))).len(), 1);
+        });
+    }
+
+    #[test]
+    fn records_of_what_has_left_are_a_reason() {
+        with_run(|run| {
+            for id in 10..18 {
+                run.left.add([id; 8], Listed::ShortLastPiece);
+                library_alone(run, packet(frame::init([id; 8], 0, 9, &[])));
+            }
+            run.unjudged.clear();
+            assert_eq!(call(run, packet(frame::init(OTHER, 0, 9, &[]))), [], "no record is free");
+            library_alone(run, packet(frame::bare([10; 8], frame::ABORTED)));
+            assert_eq!(call(run, packet(frame::init(OTHER, 0, 9, &[]))).len(), 1);
+        });
+    }
+}

@@ -4,7 +4,6 @@ import datetime
 import json
 import os
 import pathlib
-import statistics
 import subprocess
 import sys
 
@@ -28,16 +27,14 @@ SUMMED = "done"
 
 
 class Figures:
-    """The medians in criterion's folder, by group, function and value; of what was run again, the median of all runs."""
+    """The medians in criterion's folder, by group, function and value."""
 
     def __init__(self, folder):
         self.folder = pathlib.Path(folder)
 
     def find(self, *place):
-        runs = [self.folder, *sorted(self.folder.glob("again/*"))]
-        files = [run.joinpath(*map(str, place), "new", "estimates.json") for run in runs]
-        figures = [json.loads(file.read_text())["median"]["point_estimate"] for file in files if file.is_file()]
-        return statistics.median(figures) if figures else None
+        file = self.folder.joinpath(*map(str, place), "new", "estimates.json")
+        return json.loads(file.read_text())["median"]["point_estimate"] if file.is_file() else None
 
     def get(self, *place):
         figure = self.find(*place)
@@ -51,6 +48,12 @@ class Figures:
     def rounds(self):
         """The rounds of the portable sums."""
         return [Figures(folder) for folder in sorted(self.folder.glob("rounds/*"))]
+
+    def call(self, fill, kind):
+        """A call and the scan beside it, of the process whose ratio of the two is the median of all."""
+        processes = [self, *map(Figures, sorted(self.folder.glob("again/*")))]
+        pairs = [tuple(one.get(f"calls-{fill}", who, kind) for who in ("ours", "scan")) for one in processes]
+        return sorted(pairs, key=lambda pair: pair[0] / pair[1])[len(pairs) // 2]
 
 
 def ns(figure):
@@ -112,10 +115,11 @@ def verdict(met, reached):
 def bars(figures):
     speeds = [speed(one, "Portable", LONGEST) for one in figures.rounds()]
     ratios = {
-        (kind, fill): figures.get(f"calls-{fill}", "ours", kind) / figures.get(f"calls-{fill}", "scan", kind)
+        (kind, fill): ours / scan
         for fill in ("full", "empty")
         for kind in KINDS
         if kind != SUMMED
+        for ours, scan in [figures.call(fill, kind)]
     }
     (kind, fill), worst = max(ratios.items(), key=lambda item: item[1])
     best = min(ratios.values())
@@ -146,11 +150,12 @@ def sums(figures):
 def calls(figures, fill):
     rows, original = [], False
     for kind, name in KINDS.items():
-        ours, scan, theirs = (figures.find(f"calls-{fill}", who, kind) for who in ("ours", "scan", "original"))
+        ours, scan = figures.call(fill, kind)
         row = [name, ns(ours), ns(scan), ratio(ours / scan)]
+        theirs = figures.find(f"calls-{fill}", "original", kind)
         if theirs is not None:
             original = True
-            row += [ns(theirs), ratio(ours / theirs)]
+            row += [ns(theirs), ratio(figures.get(f"calls-{fill}", "ours", kind) / theirs)]
         rows.append(row)
     head = ["packet", "ours, ns", "scan, ns", "ours / scan"]
     return table(head + ["original, ns", "ours / original"] if original else head, rows)
@@ -185,7 +190,8 @@ from handing a packet out to being asked for the next.
 Its data plane only keeps what it is given.
 A node is made anew for each call and holds the same messages;
 it checks no store, which is most of what a call costs here.
-Its sums are the blake3 crate's with SIMD."""
+Its sums are the blake3 crate's with SIMD.
+It is run by the first process alone, and the ratio is to the library's call there."""
         if original
         else "The original was not available: its columns are left out."
     )
@@ -220,8 +226,9 @@ The scan asks whether as many bytes as both stores have are all zero, by joining
 Stopping at the first byte that is not zero reads {scans[0]:.1f} bytes per ns, one at a time;
 the bar is about the quicker one.
 Stores are copied anew before each call, outside the measured time.
-Where the allocator puts them makes up to a quarter of a call's time, and differs from process to process:
-calls and scans are run by three, and the median counts.
+Where the allocator puts them makes up to a quarter of a call's time, and differs from process to process.
+So calls and scans are run by three processes, and each line shows the one whose ratio is the median;
+a single process can have a call above the bar.
 The clock adds {ns(figures.get("clock", "nothing", 0))} ns to every figure of this part.
 
 {theirs}

@@ -49,11 +49,13 @@ class Figures:
         """The rounds of the portable sums."""
         return [Figures(folder) for folder in sorted(self.folder.glob("rounds/*"))]
 
-    def call(self, fill, kind):
-        """A call and the scan beside it, of the process whose ratio of the two is the median of all."""
-        processes = [self, *map(Figures, sorted(self.folder.glob("again/*")))]
-        pairs = [tuple(one.get(f"calls-{fill}", who, kind) for who in ("ours", "scan")) for one in processes]
-        return sorted(pairs, key=lambda pair: pair[0] / pair[1])[len(pairs) // 2]
+    def processes(self):
+        """The processes that ran the calls and their scans."""
+        return [self, *map(Figures, sorted(self.folder.glob("again/*")))]
+
+    def scans(self, fill, kind):
+        """A call's time in scans, both of this process."""
+        return self.get(f"calls-{fill}", "ours", kind) / self.get(f"calls-{fill}", "scan", kind)
 
 
 def ns(figure):
@@ -115,11 +117,10 @@ def verdict(met, reached):
 def bars(figures):
     speeds = [speed(one, "Portable", LONGEST) for one in figures.rounds()]
     ratios = {
-        (kind, fill): ours / scan
+        (kind, fill): max(one.scans(fill, kind) for one in figures.processes())
         for fill in ("full", "empty")
         for kind in KINDS
         if kind != SUMMED
-        for ours, scan in [figures.call(fill, kind)]
     }
     (kind, fill), worst = max(ratios.items(), key=lambda item: item[1])
     best = min(ratios.values())
@@ -150,14 +151,13 @@ def sums(figures):
 def calls(figures, fill):
     rows, original = [], False
     for kind, name in KINDS.items():
-        ours, scan = figures.call(fill, kind)
-        row = [name, ns(ours), ns(scan), ratio(ours / scan)]
-        theirs = figures.find(f"calls-{fill}", "original", kind)
+        ours, scan, theirs = (figures.find(f"calls-{fill}", who, kind) for who in ("ours", "scan", "original"))
+        row = [name, ns(ours), ns(scan), ", ".join(ratio(one.scans(fill, kind)) for one in figures.processes())]
         if theirs is not None:
             original = True
-            row += [ns(theirs), ratio(figures.get(f"calls-{fill}", "ours", kind) / theirs)]
+            row += [ns(theirs), ratio(ours / theirs)]
         rows.append(row)
-    head = ["packet", "ours, ns", "scan, ns", "ours / scan"]
+    head = ["packet", "ours, ns", "scan, ns", "ours / scan, by process"]
     return table(head + ["original, ns", "ours / original"] if original else head, rows)
 
 
@@ -190,8 +190,7 @@ from handing a packet out to being asked for the next.
 Its data plane only keeps what it is given.
 A node is made anew for each call and holds the same messages;
 it checks no store, which is most of what a call costs here.
-Its sums are the blake3 crate's with SIMD.
-It is run by the first process alone, and the ratio is to the library's call there."""
+Its sums are the blake3 crate's with SIMD."""
         if original
         else "The original was not available: its columns are left out."
     )
@@ -226,9 +225,9 @@ The scan asks whether as many bytes as both stores have are all zero, by joining
 Stopping at the first byte that is not zero reads {scans[0]:.1f} bytes per ns, one at a time;
 the bar is about the quicker one.
 Stores are copied anew before each call, outside the measured time.
-Where the allocator puts them makes up to a quarter of a call's time, and differs from process to process.
-So calls and scans are run by three processes, and each line shows the one whose ratio is the median;
-a single process can have a call above the bar.
+Calls and scans are run by three processes, and the worst of them has to meet the bar.
+The times in nanoseconds are the first one's.
+A call can take half as long again in one process as in another; why is not known.
 The clock adds {ns(figures.get("clock", "nothing", 0))} ns to every figure of this part.
 
 {theirs}

@@ -247,7 +247,7 @@ def table():
     last = None
     for crate, _, blocks in files():
         for block in blocks:
-            rows.append(f"| {'' if crate == last else crate} | `{block.name()}` | {block.one('because')} |")
+            rows.append(f"|{'' if crate == last else f' {crate}'} | `{block.name()}` | {block.one('because')} |")
             last = crate
     return "\n".join(rows) + "\n"
 

@@ -77,7 +77,8 @@ socketlemon_answer socketlemon_setup(uint8_t *store, size_t store_len, uint64_t 
 socketlemon_answer socketlemon_address(const uint8_t *key, size_t key_len, uint8_t *out, size_t out_len);
 
 /* Handles a packet that came in from `from` (16 bytes) to `to` (16 bytes); `known` says whether the key of the source in
- * the id's record is known. */
+ * the id's record is known. An init equal in source, destination, length, topic and reply flag to the arriving message of
+ * its id is acknowledged and changes nothing; any other starts the message again. */
 socketlemon_answer socketlemon_packet(uint8_t *recv, size_t recv_len, uint8_t *send, size_t send_len, const uint8_t *frame, size_t frame_len,
                                       const uint8_t *from, const uint8_t *to, const uint8_t *rules, size_t rules_len, uint64_t known, uint8_t *run,
                                       size_t run_len);

@@ -1,7 +1,9 @@
 /* Feeds random and mutated bytes, lengths, stores and numbers to every export, and checks of each answer: the number is one
- * of docs/PROTOCOL.md's, the run fits its buffer, bytes past what was written stay, and a refusal changed nothing.
+ * of docs/PROTOCOL.md's, the run fits its buffer, bytes past what was written stay, and a refusal changed nothing. Of an init that
+ * was accepted: an equal one has changed nothing either, and any other has left a fresh record.
  * Use: fuzz [SEED [ROUNDS [all]]]; under valgrind it also shows that nothing outside the buffers is touched, for each lies in an
- * allocation of its own. Exits with 0 if every answer was right and, with `all`, every refusal was met. */
+ * allocation of its own. Exits with 0 if every answer was right and, with `all`, every refusal was met and both kinds of inits of a
+ * message with pieces. */
 #include <stdio.h>
 #include <stdlib.h>
 #include <string.h>
@@ -18,6 +20,7 @@ typedef struct {
 static uint64_t state;
 static unsigned long passed, failed;
 static int met[SOCKETLEMON_REFUSALS + 1];
+static unsigned long equal_inits, other_inits; /* of messages with pieces */
 
 static uint64_t next(void) {
     state ^= state << 13;
@@ -89,12 +92,75 @@ static void pick_id(uint8_t *at) {
     at[7] = (uint8_t)(below(3) ? below(3) : below(12));
 }
 
-static void packet(buffer *stores, buffer office_send, buffer frame) {
-    buffer run = make(around(SOCKETLEMON_PACKET_RUN, 200)), both[2] = {stores[0], office_send}, rules = make(around(1, 60));
+/* An init as it came in. */
+typedef struct {
+    int there;
+    uint8_t frame[SOCKETLEMON_FRAME], from[16], to[16];
+} arrival;
+
+static arrival last; /* the last init that was accepted */
+
+/* The arriving record of a frame's id. */
+static const uint8_t *arriving(const uint8_t *store, const uint8_t *frame) {
+    for (const uint8_t *record = store + 16; record < store + 16 + 8 * RECORD; record += RECORD)
+        if (record[1] == 1 && memcmp(record + 8, frame, 8) == 0) return record;
+    return NULL;
+}
+
+/* Whether a record holds what an init says: source, destination, length, topic and reply flag. */
+static int holds(const uint8_t *record, const arrival *init) {
+    return memcmp(record + 16, init->from, 16) == 0 && memcmp(record + 32, init->to, 16) == 0 && memcmp(record + 48, init->frame + 12, 8) == 0 &&
+           record[6] == init->frame[20] && memcmp(record + 72, init->frame + 21, record[6]) == 0 && record[2] == (init->frame[8] >> 2 & 1);
+}
+
+/* What an init that was accepted has left, by the record of its id before and after it. */
+static void accepted(buffer *stores, const arrival *init) {
+    const uint8_t *was = arriving(stores[0].was, init->frame), *is = arriving(stores[0].at, init->frame);
+    int equal = was && holds(was, init), pieces = was && was[5] != 0;
+    expect("the send store after an init", same_from(stores[1], 0));
+    if (equal) {
+        expect("an equal init", same_from(stores[0], 0));
+        equal_inits += pieces;
+    } else {
+        size_t length = init->frame[18] * 256u + init->frame[19];
+        expect("an init that opens its message", is && holds(is, init) && is[5] == 0 && is[7] == (length + 1299) / 1300);
+        other_inits += pieces;
+    }
+}
+
+static void packet_between(buffer *stores, buffer frame, const uint8_t *from, const uint8_t *to) {
+    buffer run = make(around(SOCKETLEMON_PACKET_RUN, 200)), rules = make(around(1, 60));
     if (rules.len) rules.at[0] = (uint8_t)below(3);
-    keep(run), keep(both[0]), keep(both[1]);
-    answer("packet", socketlemon_packet(both[0].at, both[0].len, both[1].at, both[1].len, frame.at, frame.len, there, here, rules.at, rules.len, below(2), run.at, run.len), run, 2, both);
+    keep(run), keep(stores[0]), keep(stores[1]);
+    socketlemon_answer a = socketlemon_packet(stores[0].at, stores[0].len, stores[1].at, stores[1].len, frame.at, frame.len, from, to, rules.at, rules.len, below(2), run.at, run.len);
+    answer("packet", a, run, 2, stores);
+    if (a.number == 0 && (frame.at[8] & 0x81) == 0x80) {
+        last.there = 1;
+        memcpy(last.frame, frame.at, SOCKETLEMON_FRAME), memcpy(last.from, from, 16), memcpy(last.to, to, 16);
+        accepted(stores, &last);
+    }
     drop(run), drop(rules);
+}
+
+static void packet(buffer *stores, buffer frame) { packet_between(stores, frame, there, here); }
+
+/* The last init again, now and then with something changed. */
+static void repeated_init(buffer *stores) {
+    arrival init = last;
+    switch (below(12)) {
+    case 0: init.from[below(16)] ^= 1; break;
+    case 1: init.to[below(16)] ^= 1; break;
+    case 2: init.frame[19] ^= (uint8_t)(1 + below(3)); break;
+    case 3: init.frame[20] ^= 1; break;
+    case 4: init.frame[21] ^= 1; break;
+    case 5: init.frame[8] ^= 4; break;
+    case 6: init.frame[8] |= (uint8_t)next() & 0x7a, init.frame[9] = (uint8_t)next(), init.frame[11] = (uint8_t)next(); break;
+    default: break;
+    }
+    buffer frame = make(SOCKETLEMON_FRAME);
+    memcpy(frame.at, init.frame, frame.len);
+    packet_between(stores, frame, init.from, init.to);
+    drop(frame);
 }
 
 static void random_packet(buffer *stores) {
@@ -106,7 +172,7 @@ static void random_packet(buffer *stores) {
         memset(frame.at + 12, 0, 24);
         frame.at[18] = (uint8_t)below(6), frame.at[19] = (uint8_t)below(8), frame.at[27] = (uint8_t)below(3), frame.at[34] = (uint8_t)below(6), frame.at[35] = (uint8_t)next();
     }
-    packet(stores, stores[1], frame);
+    packet(stores, frame);
     drop(frame);
 }
 
@@ -118,9 +184,9 @@ static void loop_back(buffer *stores, const uint8_t *run, size_t len) {
         memset(frame.at, 0, frame.len);
         memcpy(frame.at, run + at + 34, n <= frame.len ? n : frame.len);
         if (below(12) == 0) frame.at[below(60)] ^= 1;
-        if (below(5)) packet(stores, stores[1], frame);
+        if (below(5)) packet(stores, frame);
         frame.at[8] |= 1;
-        if (below(3)) packet(stores, stores[1], frame);
+        if (below(3)) packet(stores, frame);
         drop(frame);
         at += 34 + n;
     }
@@ -192,7 +258,9 @@ static void one_call(buffer *stores) {
         drop(key);
         break;
     }
-    default: random_packet(stores);
+    default:
+        if (last.there && below(4) == 0) repeated_init(stores);
+        random_packet(stores);
     }
     drop(run), drop(data);
 }
@@ -208,6 +276,7 @@ static void sequence(void) {
         expect("setup", known(a.number) && a.run == 0 && a.wake == 0 && (less || role == 3 ? a.number == SOCKETLEMON_UNSOUND_STORE && same_from(stores[i], 0) : a.number == 0));
         if (a.number != 0) socketlemon_setup(stores[i].at, stores[i].len, 1 + (uint64_t)i);
     }
+    last.there = 0;
     for (size_t calls = below(120); calls > 0; calls--) one_call(stores);
     /* then a few calls on stores that somebody else has written to */
     for (size_t hits = 1 + below(4); hits > 0; hits--) {
@@ -223,6 +292,7 @@ int main(int argc, char **argv) {
     for (unsigned long rounds = argc > 2 ? strtoul(argv[2], NULL, 0) : 300; rounds > 0; rounds--) sequence();
     int refusals = 0, wanted = argc > 3 && strcmp(argv[3], "all") == 0 ? SOCKETLEMON_REFUSALS : 0;
     for (int number = 1; number <= SOCKETLEMON_REFUSALS; number++) refusals += met[number];
-    printf("%lu answers right, %lu wrong; %d of %d refusals met\n", passed, failed, refusals, SOCKETLEMON_REFUSALS);
-    return failed != 0 || refusals < wanted;
+    printf("%lu answers right, %lu wrong; %d of %d refusals met; inits of messages with pieces: %lu equal, %lu others\n", passed, failed, refusals,
+           SOCKETLEMON_REFUSALS, equal_inits, other_inits);
+    return failed != 0 || refusals < wanted || (wanted && !(equal_inits && other_inits));
 }

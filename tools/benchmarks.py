@@ -13,6 +13,7 @@ LONGEST = 32500
 CELLS = (1, 5, 15, 45)
 KINDS = {
     "init-new": "init, new id",
+    "init-again": "init, again",
     "init-restart": "init, held id",
     "chunk-new": "chunk, new index",
     "chunk-held": "chunk, held index",
@@ -217,6 +218,8 @@ That is run in three rounds, and the worst of them has to meet the bar.
 Stores of 45 cells.
 Full: every record and cell is held, but for the one that the call takes.
 Empty: nothing is held but what the call is about (for a done, its 25 pieces).
+An init again is equal to the one that opened its message and changes nothing;
+that of a held id has another length and starts its message again.
 Every call first checks that both stores are sound; a free cell has to be zero in all its bytes,
 a held one past its piece, so an empty store costs more than a full one.
 

@@ -196,8 +196,10 @@ def init(recv, frame, source, to, rules):
         return 6
     if key not in recv["held"] and not free_records(recv):
         return 7
-    recv["held"][key] = {"id": key, "reply": bool(reply), "source": source, "destination": to, "length": length, "topic": topic,
-                         "slots": slots_of(length), "pieces": {}}
+    said = {"source": source, "destination": to, "length": length, "topic": topic, "reply": bool(reply)}
+    arriving = recv["held"].get(key)
+    if arriving is None or any(arriving[five] != said[five] for five in said):
+        recv["held"][key] = {"id": key, **said, "slots": slots_of(length), "pieces": {}}
     return 0
 
 
@@ -629,6 +631,34 @@ def inits():
     b.packet("another init of a held id", frame(7, INIT, 2))
 
 
+def repeats():
+    """Inits behind piece 1 of a message of 500 bytes, which has two slots then: a done that counts 2 tells."""
+    def started():
+        b = Bench()
+        b.quiet(frame(1, INIT, 500))
+        b.quiet(frame(1, CHUNK, 1, 250, 250))
+        return b
+
+    def slots(b):
+        b.packet("  done, count 2", frame(1, DONE, 2))
+
+    b = started()
+    b.packet("init again behind a piece", frame(1, INIT, 500))
+    slots(b)
+    odd = bytearray(frame(1, 0xFA, 500))
+    odd[9:12] = 1, 2, 3
+    b.packet("  other flags, bytes 9 to 11", bytes(odd))
+    slots(b)
+    for what, rules in (("malformed rules", b"\x02"), ("closed topic", b"\x01")):
+        b.packet("  " + what, frame(1, INIT, 500), rules=rules)
+    slots(b)
+    for what, other in (("another length", frame(1, INIT, 501)), ("another topic", frame(1, INIT, 500, 0x0174 << 48)),
+                        ("a reply", frame(1, INIT | REPLY, 500))):
+        b = started()
+        b.packet("init of " + what, other)
+        slots(b)
+
+
 def chunks():
     b = Bench()
     b.quiet(frame(1, INIT, 1300))
@@ -650,7 +680,8 @@ def chunks():
     b.packet("chunk at a new index, no cell free", frame(1, CHUNK, 25, 0, 250))
     b.packet("chunk that ends the message, no cell free", frame(1, CHUNK, 25, 32499, 1))
     b.packet("chunk at a held index, no cell free", frame(1, CHUNK, 24, 0, 251))
-    b.packet("init again", frame(1, INIT, 32500))
+    b.packet("init again, no cell free", frame(1, INIT, 32500))
+    b.packet("init of 32499", frame(1, INIT, 32499))
     b.packet("chunk at a new index", frame(1, CHUNK, 25, 0, 250))
 
 
@@ -692,7 +723,7 @@ def message_values():
     values()
     flags("flags, fresh stores:", False)
     flags("flags, arriving, and leaving in state 1:", True)
-    for group in (rooms, stores, sends, inits, chunks, dones, acks):
+    for group in (rooms, stores, sends, inits, repeats, chunks, dones, acks):
         group()
 
 

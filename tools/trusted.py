@@ -21,6 +21,8 @@ THEOREMS = {
     ("ledger", "DemandLaws"): ["demand3"],
     ("ledger", "InOrderLaws"): ["takes-give"],
     ("ledger", "OwnLaws"): ["since-init", "since-init-made", "own-page", "own-made"],
+    ("ledger", "RepeatedLaws"): ["equal-init-row", "equal-init"],
+    ("ledger", "BetweenLaws"): ["between-inits"],
     ("ledger", "RefusedLaws"): ["setup-refused", "packet-refused", "push-refused", "wake-refused", "report-refused", "take-refused"],
     ("ledger", "UntouchedLaws"): ["send-untouched", "recv-untouched"],
     ("address", "AddressLaws"): ["address-refused"],

@@ -65,7 +65,8 @@ fn refusal(recv: &[u8], link: usize, id: &[u8], total: u64) -> u64
     answer::NO_RECORD
 }
 
-// Init: the number, and the store with the message announced: a record opened, or a held one started again.
+// Init: the number, and the store with the message announced: a record opened, a held one left as it is where the init
+// says it again, or else started again.
 pub fn init(recv: &mut [u8], label: Label, topic: &[u8], rules: &[u8]) -> u64
     requires { ⌜ Receives (now recv) × LabelSized (newLabel label (now topic)) ⌝ }
     ensures { λ r.
@@ -91,6 +92,9 @@ pub fn init(recv: &mut [u8], label: Label, topic: &[u8], rules: &[u8]) -> u64
     }
     if recv[link] == 0 {
         records::open::open_arriving(recv, label, topic);
+        return answer::DONE;
+    }
+    if records::repeat::says_again(recv, link, label, topic) {
         return answer::DONE;
     }
     records::restart::restart(recv, link, label, topic);

@@ -2,23 +2,24 @@
 -- store keeps it. That keys are unique and indices rise is no part of it: a valid store has both. Assumes nothing.
 use Prim.Native.Nat.{ℕ}
 use native.Mathlib.Omega.{arith}
-use mathlib.Core.Path.{_≡_, refl, _∙_}
+use mathlib.Core.Path.{_≡_, refl, ap, _∙_}
 use mathlib.Core.Bool.{false}
 use mathlib.Core.List.{List, [], _∷_, _++_}
 use mathlib.Core.Option.{Option, none, some}
 use Rattle.octets.specs.BoolsLaws.{cases}
 use Rattle.packet.specs.declared.header.Kind.{Kind}
 use Rattle.packet.specs.declared.header.Kind.the-variants.{Init, Chunk, Done, Read, Aborted, AckInit, AckChunk, AckDone, Nothing}
-use Rattle.machine.specs.Values.{Label, Rec, Store, Key, keyOf, sameKey}
+use Rattle.machine.specs.Values.{Label, Rec, Store, Key, keyOf, sameKey, equalInFive}
 use Rattle.machine.specs.Chains.{first}
 use Rattle.machine.specs.Find.{find}
-use Rattle.machine.specs.Receive.{recKey, found, replaced, dropped, started, initAt, withPiece, chunkAt, doneAt, dropAt, takeFrom}
+use Rattle.machine.specs.Receive.{recKey, found, replaced, dropped, started, initAt, initWith, withPiece, chunkAt, doneAt, dropAt, takeFrom}
 use Rattle.machine.specs.Packet.{Packet, asked, initLabel, recvStep}
 use Rattle.machine_laws.specs.Keys.{key-eq, key-refl}
 use Rattle.machine_steps.specs.Find.{find-key, find-first-same, find-first-other, find-swap-same, find-swap-other, find-without-other}
 use Rattle.machine_steps.specs.Unique.{Unique, find-without-same}
-use Rattle.machine_steps.specs.Pieces.{pieceBytes, bytes-put}
-use Rattle.ledger.specs.Ledger.{Piece, Page, Book, look, reach, countOf, write, withPage, initIn, chunkIn, doneIn, packetIn, later}
+use Rattle.machine.specs.Pieces.{pieceBytes}
+use Rattle.machine_steps.specs.Pieces.{bytes-put}
+use Rattle.ledger.specs.Ledger.{Piece, Page, Book, look, reach, countOf, write, withPage, opened, initIn, chunkIn, doneIn, packetIn, later}
 
 -- ---- what it is to agree
 
@@ -54,9 +55,6 @@ pub record Agree (s : Store) (b : Book) : Type 0 where
 -- ---- records
 
 -- an init's record with the page that it opens
-abbrev opened : Label → Page
-opened h = record { label = h; pieces = [] }
-
 started-agrees : (place : ℕ) (h : Label) → Agrees (started place h) (opened h)
 unfolding find look reach
 started-agrees place h = record { heads = refl; slotted = omega arith; pieced = λ i. refl }
@@ -111,17 +109,27 @@ rows-last (t ∷ l) (q ∷ row) r g h a = (h .0, rows-last l row r g (h .1) a)
 -- ---- steps
 
 module _ (s : Store) (b : Book) (u : Unique sameKey recKey (s .held)) (a : Agree s b) where
-  -- a new record, or one that restarts
-  init-keeps : (h : Label) (o : Option Rec) → found (keyOf h) (s .held) ≡ o → Agree (initAt o h s) (initIn (keyOf h) h b)
+  -- a new record, or one that restarts, and the page that is opened
+  afresh-keeps : (h : Label) (o : Option Rec) → found (keyOf h) (s .held) ≡ o → Agree (initAt o h s) (withPage (keyOf h) (some (opened h)) b)
   unfolding initAt
-  init-keeps h none e = record {
+  afresh-keeps h none e = record {
     paged = cons-paged (started (first (s .free)) h) (opened h) (b .pages) (s .held) (started-agrees (first (s .free)) h) (a .paged);
     rowed = a .rowed;
   }
-  init-keeps h (some r) e = record {
+  afresh-keeps h (some r) e = record {
     paged = swap-paged (started (r .place) h) r (opened h) (b .pages) (s .held) e (started-agrees (r .place) h) (a .paged);
     rowed = a .rowed;
   }
+
+  -- a record and its page have one head: an init says both again or neither
+  init-keeps : (h : Label) (o : Option Rec) (m : Option Page) → found (keyOf h) (s .held) ≡ o → Tied o m → Agree (initWith o h s) (initIn m (keyOf h) h b)
+  unfolding initIn
+  init-keeps h none none e t = afresh-keeps h none e
+  init-keeps h none (some g) e t = absurd t
+  init-keeps h (some r) none e t = absurd t
+  init-keeps h (some r) (some g) e t =
+      let both : equalInFive (r .label) h ≡ equalInFive (g .label) h = ap (λ (x : Label). equalInFive x h) (t .heads) in
+      cases (equalInFive (g .label) h) (λ z. rw (both, z) a) (λ z. rw (both, z) (afresh-keeps h (some r) e))
 
   -- a record found by a key has that key
   chunk-keeps : (k : Key) (q : Piece) (o : Option Rec) (m : Option Page) → found k (s .held) ≡ o → Tied o m → Agree (chunkAt o (q .index) (q .bytes) s) (chunkIn m k q b)
@@ -160,7 +168,7 @@ module _ (s : Store) (b : Book) (u : Unique sameKey recKey (s .held)) (a : Agree
   -- a packet, by its kind
   pub packet-keeps : (kind : Kind) (p : Packet) → Agree (recvStep kind p s) (packetIn kind p b)
   unfolding recvStep packetIn
-  packet-keeps Init p = init-keeps (initLabel p) (found (asked p) (s .held)) refl
+  packet-keeps Init p = init-keeps (initLabel p) (found (asked p) (s .held)) (b .pages (asked p)) refl (a .paged (asked p))
   packet-keeps Chunk p = chunk-keeps (asked p) _ (found (asked p) (s .held)) (b .pages (asked p)) refl (a .paged (asked p))
   packet-keeps Done p = done-keeps (asked p) (found (asked p) (s .held)) (b .pages (asked p)) refl (a .paged (asked p))
   packet-keeps Read p = a

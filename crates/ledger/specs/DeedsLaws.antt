@@ -1,15 +1,15 @@
 -- What a packet does to the book, by the open page of its key alone: nothing, a page in its place, or the page goes last in the row. Assumes nothing.
 use mathlib.Core.Path.{_≡_, refl, sym, ap, _∙_}
+use mathlib.Core.Bool.{cond}
 use mathlib.Core.List.{[], _∷_, _++_}
 use mathlib.Core.Option.{Option, none, some, Option·none-ne-some, Option·some-injective}
 use Rattle.octets.specs.BoolsLaws.{cases}
 use Rattle.packet.specs.declared.header.Kind.{Kind}
 use Rattle.packet.specs.declared.header.Kind.the-variants.{Init, Chunk, Done, Read, Aborted, AckInit, AckChunk, AckDone, Nothing}
-use Rattle.packet.specs.Frame.{chunkIndex, piece}
-use Rattle.machine.specs.Values.{Key, keyOf, sameKey}
+use Rattle.machine.specs.Values.{Label, Key, keyOf, sameKey, repeats}
 use Rattle.machine.specs.Packet.{Packet, asked, initLabel}
 use Rattle.machine_laws.specs.Keys.{key-eq}
-use Rattle.ledger.specs.Ledger.{Page, Book, write, withPage, chunkIn, doneIn, packetIn}
+use Rattle.ledger.specs.Ledger.{Page, Book, write, withPage, pageLabel, opened, initIn, pieceOf, chunkIn, doneIn, packetIn}
 
 pub data Deed : Type 0 where
   keep : Deed
@@ -24,9 +24,9 @@ apply (finish g) k b = record { pages = write k none (b .pages); row = b .row ++
 
 -- what a packet of a kind does, where its key has that page or none
 abbrev pub deed : Kind → Packet → Option Page → Deed
-deed Init p m = set (some (record { label = initLabel p; pieces = [] }))
+deed Init p m = cond (repeats pageLabel m (initLabel p)) keep (set (some (opened (initLabel p))))
 deed Chunk p none = keep
-deed Chunk p (some g) = set (some (record { label = g .label; pieces = record { index = chunkIndex (p .frame); bytes = piece (p .frame) } ∷ g .pieces }))
+deed Chunk p (some g) = set (some (record { label = g .label; pieces = pieceOf p ∷ g .pieces }))
 deed Done p none = keep
 deed Done p (some g) = finish g
 deed Read p m = keep
@@ -37,8 +37,8 @@ deed AckDone p m = keep
 deed Nothing p m = keep
 
 pub deed-is : (kind : Kind) (p : Packet) (b : Book) (m : Option Page) → b .pages (asked p) ≡ m → packetIn kind p b ≡ apply (deed kind p m) (asked p) b
-unfolding packetIn chunkIn doneIn
-deed-is Init p b m e = refl
+unfolding packetIn initIn chunkIn doneIn
+deed-is Init p b m e = rw e (cases (repeats pageLabel m (initLabel p)) (λ z. rw z) (λ z. rw z))
 deed-is Chunk p b none e = rw e
 deed-is Chunk p b (some g) e = rw e
 deed-is Done p b none e = rw e
@@ -71,7 +71,7 @@ one-page : (k : Key) (g : Page) → keyOf (g .label) ≡ k → Fits k (some g)
 one-page k g h x e = ap (λ (y : Page). keyOf (y .label)) (sym (Option·some-injective g x e)) ∙ h
 
 pub deed-fits : (kind : Kind) (p : Packet) (m : Option Page) → Fits (asked p) m → DeedFits (asked p) (deed kind p m)
-deed-fits Init p m f = one-page (asked p) _ refl
+deed-fits Init p m f = cases (repeats pageLabel m (initLabel p)) (λ z. rw z tt) (λ z. rw z (one-page (asked p) (opened (initLabel p)) refl))
 deed-fits Chunk p none f = tt
 deed-fits Chunk p (some g) f = one-page (asked p) _ (f g refl)
 deed-fits Done p none f = tt

@@ -16,11 +16,11 @@ use Rattle.machine.specs.Values.{Label, Rec}
 use Rattle.machine.specs.Sound.{rising, sizes}
 use Rattle.machine.specs.Find.{isSome}
 use Rattle.machine.specs.Refusals.{refusal}
-use Rattle.machine.specs.Pieces.{pieceAt, joined}
+use Rattle.machine.specs.Pieces.{pieceAt, pieceBytes, joined}
 use Rattle.machine.specs.Packet.{doneRow}
 use Rattle.octets.specs.ListsLaws.{_&_}
 use Rattle.machine_steps.specs.Refusals.{refusal-clear, clear-refusal}
-use Rattle.machine_steps.specs.Pieces.{pieceBytes, some-bytes}
+use Rattle.machine_steps.specs.Pieces.{some-bytes}
 use Rattle.machine_steps.specs.ByIndex as by
 use Rattle.machine_steps.specs.ByIndex.{join-alike, joined-by-index, length-joined, complete-some, some-complete}
 use Rattle.ledger.specs.Ledger.{Piece, Page, look, countOf, joinFrom, sizesFrom, wholeOf, Due}

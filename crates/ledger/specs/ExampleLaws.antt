@@ -1,6 +1,6 @@
--- The machine's worked runs as the calls answer them, from fresh stores of two cells and of one; and a survey in two pieces that is restarted while a
--- late piece of its older form is under way. BLAKE3 is computed for three bytes only: of the two pieces it is given that, mixed, they have another
--- sum. Assumes nothing else.
+-- The machine's worked runs as the calls answer them, from fresh stores of two cells and of one; and a survey in two pieces, under the id of which
+-- another starts while a late piece of the first is under way. BLAKE3 is computed for three bytes only: of the two pieces it is given that, mixed,
+-- they have another sum. Assumes nothing else.
 use Prim.Native.Nat.{ℕ, _<_}
 use native.Mathlib.Omega.{arith}
 use mathlib.Core.Path.{_≡_, refl, ap, _∙_}
@@ -23,7 +23,7 @@ use Rattle.blake3.specs.Laws.{blake3-below}
 use Rattle.packet.specs.Frame.{kindOf, doneFlag}
 use Rattle.packet.specs.Outgoing.{header, chunkPacket, donePacket}
 use Rattle.machine.specs.Codes.{roleReceive, roleSend}
-use Rattle.machine.specs.Values.{Rec, Store, sameKey}
+use Rattle.machine.specs.Values.{Rec, Store, sameKey, equalInFive}
 use Rattle.machine.specs.Counting.{rise}
 use Rattle.machine.specs.Sound.{fresh, sizes}
 use Rattle.machine.specs.Find.{find, swap, without}
@@ -31,8 +31,8 @@ use Rattle.machine.specs.Refusals.{refusal}
 use Rattle.machine.specs.Pieces.{newCell, putPiece, joined}
 use Rattle.machine.specs.Receive.{initAt, chunkAt, doneAt}
 use Rattle.machine.specs.Packet.{Packet, kind, isKind, frameBytes, packetRoom, tooShort, doneRow, kindRow, recvStep, sendStep}
-use Rattle.machine.specs.Samples.{id, frame, init, chunk, address}
-use Rattle.machine.specs.WorkedLaws.{done, survey, arriving, old, new, piece0, piece1}
+use Rattle.machine.specs.Samples.{id, frame, topic, init, another, chunk, address}
+use Rattle.machine.specs.WorkedLaws.{done, surveyOf, arriving, old, new, piece0, piece1}
 use Rattle.machine_laws.specs.Fields.{bytes-of, bytes-append, bytes-pad}
 use Rattle.machine_laws.specs.Fresh.{fresh-valid}
 use Rattle.ledger.specs.Run.{Call, packet, answered, freshStores}
@@ -66,6 +66,14 @@ full-init : (n : ℕ) → Full (heard (init n))
 unfolding init frame header id be kindOf
 full-init n = full (header id 0x84 ++ be 8 n) (bytes-append (header id 0x84) (be 8 n) (small (header id 0x84) refl) (bytes-be 8 n)) refl refl
 
+full-another : (n : ℕ) → Full (heard (another n))
+unfolding another topic frame header id be kindOf
+full-another n =
+    full (header id 0x84 ++ be 8 n ++ (1 ∷ topic))
+    (bytes-append (header id 0x84) (be 8 n ++ (1 ∷ topic)) (small (header id 0x84) refl)
+    (bytes-append (be 8 n) (1 ∷ topic) (bytes-be 8 n) (small (1 ∷ topic) refl)))
+    refl refl
+
 full-chunk : (index offset : ℕ) (l : List ℕ) → all (λ x. ltb x 256) (chunkPacket id index offset l) ≡ true → length (chunk index offset l) ≡ frameBytes
     → Full (heard (chunk index offset l))
 unfolding chunk frame chunkPacket header id be kindOf
@@ -87,49 +95,49 @@ told : (p : Packet) (l : List Packet) (s : Store) (n : ℕ) → number p s sende
 unfolding numbers
 told p l s n e = rw e
 
--- the survey of two pieces, and its store
-abbrev pieces : List ℕ → List ℕ → Rec
-pieces a b = survey 260 2 (newCell 2 0 a ∷ newCell 1 1 b ∷ [])
+-- the survey of two pieces about a topic, and its store
+abbrev pieces : List ℕ → List ℕ → List ℕ → Rec
+pieces about a b = surveyOf about 260 2 (newCell 2 0 a ∷ newCell 1 1 b ∷ [])
 
-abbrev holding : List ℕ → List ℕ → Store
-holding a b = arriving [] (pieces a b) [] .recv
+abbrev holding : List ℕ → List ℕ → List ℕ → Store
+holding about a b = arriving [] (pieces about a b) [] .recv
 
 abbrev whole : List ℕ
 whole = piece0 ++ piece1
 
 -- of a done, its row of refusals
-done-number : (l a b : List ℕ) → number (heard (done 2 l)) (holding a b) sender ≡ refusal (doneRow 2 (blake3 l) true (some (pieces a b)))
-unfolding done id frame arriving survey part be num same kindOf header donePacket sameKey find kindRow blake3 bytes
-done-number l a b = refl
+done-number : (about l a b : List ℕ) → number (heard (done 2 l)) (holding about a b) sender ≡ refusal (doneRow 2 (blake3 l) true (some (pieces about a b)))
+unfolding done id frame arriving surveyOf part be num same kindOf header donePacket sameKey find kindRow blake3 bytes
+done-number about l a b = refl
 
-done-right : number (heard (done 2 whole)) (holding piece0 piece1) sender ≡ 0
-unfolding piece0 piece1 survey refusal sizes joined
-done-right = done-number whole piece0 piece1 ∙ rw (same-refl (blake3 whole))
+done-right : (about : List ℕ) → number (heard (done 2 whole)) (holding about piece0 piece1) sender ≡ 0
+unfolding piece0 piece1 surveyOf refusal sizes joined
+done-right about = done-number about whole piece0 piece1 ∙ rw (same-refl (blake3 whole))
 
--- a survey of three bytes starts again; a late piece of the older one; then the new one's
+-- a survey of three bytes, and another under its id; a late piece of the older one; then the new one's
 abbrev pub mixed : List (List ℕ)
-mixed = init 3 ∷ chunk 0 0 old ∷ init 3 ∷ done 1 new ∷ chunk 0 0 old ∷ done 1 new ∷ chunk 0 0 new ∷ done 1 new ∷ done 1 new ∷ []
+mixed = init 3 ∷ chunk 0 0 old ∷ another 3 ∷ done 1 new ∷ chunk 0 0 old ∷ done 1 new ∷ chunk 0 0 new ∷ done 1 new ∷ done 1 new ∷ []
 
 mixed-numbers : numbers (map heard mixed) (fresh roleReceive 2) sender ≡ 0 ∷ 0 ∷ 0 ∷ 14 ∷ 0 ∷ 16 ∷ 0 ∷ 0 ∷ 8 ∷ []
-unfolding numbers old new id frame init chunk done address part be num same add rotr half mix upright slanted columns diagonals round rounds start
-    compress chaining rootBlock wordAt blockAt flagsAt before lastNode chunkNode parentNode level node bytes blake3 kindOf header chunkPacket
-    donePacket sameKey rise sizes find swap without refusal putPiece joined initAt chunkAt doneAt kindRow recvStep sendStep tooShort
+unfolding numbers old new id frame topic init another chunk done address part be num same add rotr half mix upright slanted columns diagonals round
+    rounds start compress chaining rootBlock wordAt blockAt flagsAt before lastNode chunkNode parentNode level node bytes blake3 kindOf header chunkPacket
+    donePacket sameKey equalInFive rise sizes find swap without refusal putPiece joined initAt chunkAt doneAt kindRow recvStep sendStep tooShort
 mixed-numbers = refl
 
--- a survey of two pieces, its packets lost, repeated and out of order; and what comes when it is whole
+-- a survey of two pieces, its packets lost, repeated and out of order, its init late once more; and what comes when it is whole
 abbrev pub lossy : List (List ℕ)
 lossy =
-    init 260 ∷ init 260 ∷ chunk 1 250 piece1 ∷ chunk 1 250 piece1 ∷ done 1 whole ∷ done 2 whole ∷ chunk 0 0 piece0 ∷ done 2 whole
+    init 260 ∷ init 260 ∷ chunk 1 250 piece1 ∷ chunk 1 250 piece1 ∷ init 260 ∷ done 1 whole ∷ done 2 whole ∷ chunk 0 0 piece0 ∷ done 2 whole
     ∷ chunk 1 250 piece1 ∷ done 2 whole ∷ init 260 ∷ []
 
-lossy-numbers : numbers (map heard lossy) (fresh roleReceive 2) sender ≡ 0 ∷ 0 ∷ 0 ∷ 0 ∷ 13 ∷ 14 ∷ 0 ∷ 0 ∷ 8 ∷ 8 ∷ 5 ∷ []
-unfolding numbers id frame init chunk done address survey arriving part be num same kindOf header chunkPacket donePacket sameKey rise find swap
-    without refusal putPiece initAt chunkAt doneAt kindRow recvStep sendStep tooShort piece0 piece1
+lossy-numbers : numbers (map heard lossy) (fresh roleReceive 2) sender ≡ 0 ∷ 0 ∷ 0 ∷ 0 ∷ 0 ∷ 13 ∷ 14 ∷ 0 ∷ 0 ∷ 8 ∷ 8 ∷ 5 ∷ []
+unfolding numbers id frame init chunk done address surveyOf arriving part be num same kindOf header chunkPacket donePacket sameKey equalInFive rise find
+    swap without refusal putPiece initAt chunkAt doneAt kindRow recvStep sendStep tooShort piece0 piece1
 lossy-numbers =
-    ap (λ (l : List ℕ). 0 ∷ 0 ∷ 0 ∷ 0 ∷ 13 ∷ 14 ∷ 0 ∷ l)
-    (told (heard (done 2 whole)) (map heard (chunk 1 250 piece1 ∷ done 2 whole ∷ init 260 ∷ [])) (holding piece0 piece1) 0 done-right)
+    ap (λ (l : List ℕ). 0 ∷ 0 ∷ 0 ∷ 0 ∷ 0 ∷ 13 ∷ 14 ∷ 0 ∷ l)
+    (told (heard (done 2 whole)) (map heard (chunk 1 250 piece1 ∷ done 2 whole ∷ init 260 ∷ [])) (holding [] piece0 piece1) 0 (done-right []))
 
--- a survey of two pieces starts again; a late second piece of the older one; then the new one's. The mixed pieces have another sum
+-- a survey of two pieces, and another under its id; a late second piece of the older one; then the new one's. The mixed pieces have another sum
 abbrev pub old0 : List ℕ
 old0 = replicate 250 1
 
@@ -140,19 +148,19 @@ abbrev pub Differ : Type 0
 Differ = same (blake3 (piece0 ++ piece1)) (blake3 (piece0 ++ old1)) ≡ false
 
 abbrev pub late : List (List ℕ)
-late = init 260 ∷ chunk 0 0 old0 ∷ init 260 ∷ chunk 1 250 old1 ∷ chunk 0 0 piece0 ∷ done 2 whole ∷ chunk 1 250 piece1 ∷ done 2 whole ∷ []
+late = init 260 ∷ chunk 0 0 old0 ∷ another 260 ∷ chunk 1 250 old1 ∷ chunk 0 0 piece0 ∷ done 2 whole ∷ chunk 1 250 piece1 ∷ done 2 whole ∷ []
 
-done-mixed : Differ → number (heard (done 2 whole)) (holding piece0 old1) sender ≡ 16
-unfolding piece0 piece1 survey refusal sizes joined
-done-mixed differ = done-number whole piece0 old1 ∙ rw differ
+done-mixed : Differ → number (heard (done 2 whole)) (holding topic piece0 old1) sender ≡ 16
+unfolding piece0 piece1 surveyOf refusal sizes joined
+done-mixed differ = done-number topic whole piece0 old1 ∙ rw differ
 
 late-numbers : Differ → numbers (map heard late) (fresh roleReceive 2) sender ≡ 0 ∷ 0 ∷ 0 ∷ 0 ∷ 0 ∷ 16 ∷ 0 ∷ 0 ∷ []
-unfolding numbers id frame init chunk done address survey arriving part be num same kindOf header chunkPacket donePacket sameKey rise find swap
-    without refusal putPiece initAt chunkAt doneAt kindRow recvStep sendStep tooShort piece0 piece1
+unfolding numbers id frame topic init another chunk done address surveyOf arriving part be num same kindOf header chunkPacket donePacket sameKey
+    equalInFive rise find swap without refusal putPiece initAt chunkAt doneAt kindRow recvStep sendStep tooShort piece0 piece1
 late-numbers differ =
     ap (λ (l : List ℕ). 0 ∷ 0 ∷ 0 ∷ 0 ∷ 0 ∷ l)
-    (told (heard (done 2 whole)) (map heard (chunk 1 250 piece1 ∷ done 2 whole ∷ [])) (holding piece0 old1) 16 (done-mixed differ)
-    ∙ ap (λ (l : List ℕ). 16 ∷ 0 ∷ l) (told (heard (done 2 whole)) [] (holding piece0 piece1) 0 done-right))
+    (told (heard (done 2 whole)) (map heard (chunk 1 250 piece1 ∷ done 2 whole ∷ [])) (holding topic piece0 old1) 16 (done-mixed differ)
+    ∙ ap (λ (l : List ℕ). 16 ∷ 0 ∷ l) (told (heard (done 2 whole)) [] (holding topic piece0 piece1) 0 (done-right topic)))
 
 -- ---- the runs, as the calls answer
 
@@ -168,22 +176,21 @@ mixed-answers =
     let o = full-chunk 0 0 old refl refl in
     let n = full-chunk 0 0 new refl refl in
     let d = full-done 1 new in
-    worked mixed (full-init 3 & o & full-init 3 & d & o & d & n & d & d & tt) ∙ mixed-numbers
+    worked mixed (full-init 3 & o & full-another 3 & d & o & d & n & d & d & tt) ∙ mixed-numbers
 
--- a wrong count (13), a gap (14), then whole (0); what comes later finds no record (8), and its init is of a whole id (5)
-pub lossy-answers : answers lossy ≡ 0 ∷ 0 ∷ 0 ∷ 0 ∷ 13 ∷ 14 ∷ 0 ∷ 0 ∷ 8 ∷ 8 ∷ 5 ∷ []
+-- the late init changes nothing (0); a wrong count (13), a gap (14), then whole (0); what comes later finds no record (8), and its init is of a whole id (5)
+pub lossy-answers : answers lossy ≡ 0 ∷ 0 ∷ 0 ∷ 0 ∷ 0 ∷ 13 ∷ 14 ∷ 0 ∷ 0 ∷ 8 ∷ 8 ∷ 5 ∷ []
 unfolding piece0 piece1 chunk frame chunkPacket header id be
 lossy-answers =
     let i = full-init 260 in
     let c = full-chunk 1 250 piece1 refl refl in
     let d = full-done 2 whole in
-    worked lossy (i & i & c & c & full-done 1 whole & d & full-chunk 0 0 piece0 refl refl & d & c & d & i & tt) ∙ lossy-numbers
+    worked lossy (i & i & c & c & i & full-done 1 whole & d & full-chunk 0 0 piece0 refl refl & d & c & d & i & tt) ∙ lossy-numbers
 
 -- another sum (16) until the right piece has come (0)
 pub late-answers : Differ → answers late ≡ 0 ∷ 0 ∷ 0 ∷ 0 ∷ 0 ∷ 16 ∷ 0 ∷ 0 ∷ []
 unfolding piece0 piece1 chunk frame chunkPacket header id be
 late-answers differ =
-    let i = full-init 260 in
     let d = full-done 2 whole in
-    worked late (i & full-chunk 0 0 old0 refl refl & i & full-chunk 1 250 old1 refl refl & full-chunk 0 0 piece0 refl refl & d & full-chunk 1 250 piece1 refl refl & d & tt)
+    worked late (full-init 260 & full-chunk 0 0 old0 refl refl & full-another 260 & full-chunk 1 250 old1 refl refl & full-chunk 0 0 piece0 refl refl & d & full-chunk 1 250 piece1 refl refl & d & tt)
     ∙ late-numbers differ

@@ -152,7 +152,7 @@ call-holds c s l y h =
     (λ e. rw e (done-holds s l h c y (eqb-true (answer c s) 0 e)))
     (λ e. rw (e, refused-stays c s (eqb-false (answer c s) 0 e)) h)
 
-run-holds : (t : List Call) (s : Stores) (l : Ledger) → All Typed t → Holds s l → Holds (left t s) (ledger (answered t s) l)
+pub run-holds : (t : List Call) (s : Stores) (l : Ledger) → All Typed t → Holds s l → Holds (left t s) (ledger (answered t s) l)
 unfolding left answered ledger
 run-holds [] s l y h = h
 run-holds (c ∷ t) s l y h = run-holds t (after c s) (cond (eqb (answer c s) 0) (enter c l) l) (y .1) (call-holds c s l (y .0) h)

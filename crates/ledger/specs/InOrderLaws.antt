@@ -11,9 +11,10 @@ use Rattle.octets.specs.Lists.{All}
 use Rattle.packet.specs.declared.header.Kind.{Kind}
 use Rattle.packet.specs.declared.header.Kind.the-variants.{Init, Chunk, Done, Read, Aborted, AckInit, AckChunk, AckDone, Nothing}
 use Rattle.machine.specs.Limits.{mostCells}
-use Rattle.machine.specs.Packet.{Packet, kind, asked}
+use Rattle.machine.specs.Values.{repeats}
+use Rattle.machine.specs.Packet.{Packet, kind, asked, initLabel}
 use Rattle.ledger.specs.Run.{receive, send, Stores, Call, setup, packet, push, wake, report, takeWhole, answer, after, left, answered, freshStores, Typed}
-use Rattle.ledger.specs.Ledger.{Page, Book, Ledger, opening, chunkIn, doneIn, packetIn, enter, ledger, later}
+use Rattle.ledger.specs.Ledger.{Page, Book, Ledger, opening, pageLabel, initIn, chunkIn, doneIn, packetIn, enter, ledger, later}
 use Rattle.ledger.specs.Statement.{Given}
 use Rattle.ledger.specs.Made.{finished, madeBy, madeFrom, made, Filled, givenBy, givenFrom, given, Gives, Taken}
 use Rattle.ledger.specs.HoldsLaws.{Holds, fresh-holds, call-holds}
@@ -21,8 +22,8 @@ use Rattle.ledger.specs.DemandLaws.{holds-demand}
 
 -- the page of a done goes last in the row, and nothing else does
 pub row-finished : (k : Kind) (p : Packet) (b : Book) (m : Option Page) → b .pages (asked p) ≡ m → packetIn k p b .row ≡ b .row ++ finished k m
-unfolding packetIn chunkIn doneIn
-row-finished Init p b m e = sym (append-nil (b .row))
+unfolding packetIn initIn chunkIn doneIn
+row-finished Init p b m e = cases (repeats pageLabel (b .pages (asked p)) (initLabel p)) (λ z. rw z (sym (append-nil (b .row)))) (λ z. rw z (sym (append-nil (b .row))))
 row-finished Chunk p b none e = rw e (sym (append-nil (b .row)))
 row-finished Chunk p b (some g) e = rw e (sym (append-nil (b .row)))
 row-finished Done p b none e = rw e (sym (append-nil (b .row)))

@@ -12,7 +12,7 @@ use Rattle.packet.specs.declared.header.Kind.the-variants.{Init, Chunk, Done, R
 use Rattle.packet.specs.Frame.{chunkIndex, piece}
 use Rattle.machine.specs.Limits.{slotsOf}
 use Rattle.machine.specs.Codes.{roleReceive, roleSend}
-use Rattle.machine.specs.Values.{Label, Key, sameKey}
+use Rattle.machine.specs.Values.{Label, Key, sameKey, repeats}
 use Rattle.machine.specs.Packet.{Packet, kind, asked, initLabel}
 use Rattle.ledger.specs.Run.{receive, send, Call, setup, packet, push, wake, report, takeWhole}
 
@@ -95,9 +95,16 @@ write k g f j = cond (sameKey j k) g (f j)
 abbrev pub withPage : Key → Option Page → Book → Book
 withPage k g b = record { pages = write k g (b .pages); row = b .row }
 
--- "Init opens its id's page, replacing an open one: .. no pieces"
-abbrev pub initIn : Key → Label → Book → Book
-initIn k h b = withPage k (some (record { label = h; pieces = [] })) b
+abbrev pub pageLabel : Page → Label
+pageLabel g = g .label
+
+-- a page that an init opens: "addresses, topic, length, reply flag, no pieces"
+abbrev pub opened : Label → Page
+opened h = record { label = h; pieces = [] }
+
+-- "an init equal in these five to its id's open page changes nothing, and any other opens afresh"
+unfoldable pub initIn : Option Page → Key → Label → Book → Book
+initIn m k h b = cond (repeats pageLabel m h) b (withPage k (some (opened h)) b)
 
 -- "Chunk: its piece's bytes become those of its index on the open page"
 unfoldable pub chunkIn : Option Page → Key → Piece → Book → Book
@@ -109,10 +116,14 @@ unfoldable pub doneIn : Option Page → Key → Book → Book
 doneIn none k b = b
 doneIn (some g) k b = record { pages = write k none (b .pages); row = b .row ++ (g ∷ []) }
 
+-- a chunk's piece
+abbrev pub pieceOf : Packet → Piece
+pieceOf p = record { index = chunkIndex (p .frame); bytes = piece (p .frame) }
+
 -- "Packets here are those without ack, kind by Steps"; "Aborted: the open page goes"
 unfoldable pub packetIn : Kind → Packet → Book → Book
-packetIn Init p b = initIn (asked p) (initLabel p) b
-packetIn Chunk p b = chunkIn (b .pages (asked p)) (asked p) (record { index = chunkIndex (p .frame); bytes = piece (p .frame) }) b
+packetIn Init p b = initIn (b .pages (asked p)) (asked p) (initLabel p) b
+packetIn Chunk p b = chunkIn (b .pages (asked p)) (asked p) (pieceOf p) b
 packetIn Done p b = doneIn (b .pages (asked p)) (asked p) b
 packetIn Read p b = b
 packetIn Aborted p b = withPage (asked p) none b

@@ -4,6 +4,7 @@ pub mod Ledger
 pub mod Statement
 pub mod Made
 pub mod Only
+pub mod Between
 -- refusals change nothing
 pub mod RefusedLaws
 -- demand 3
@@ -19,6 +20,9 @@ pub mod InOrderLaws
 -- nothing earlier and no other id
 pub mod DeedsLaws
 pub mod OwnLaws
+-- an init that comes again, and what is kept until it does
+pub mod RepeatedLaws
+pub mod BetweenLaws
 -- a store that a packet does not concern
 pub mod UntouchedLaws
 -- worked runs

@@ -1,15 +1,15 @@
 -- What concerns what: of the calls that are fed to the ledger those of a key, of pages those of a key, and of the two stores the one that a packet
 -- works on. The theorems of Own and Untouched speak of these.
 use Prim.Native.Nat.{ℕ}
-use mathlib.Core.Bool.{Bool, true, false, cond, _&&_}
+use mathlib.Core.Bool.{Bool, true, false, cond, not, _&&_}
 use mathlib.Core.List.{List, [], _∷_}
 use lib.Dec.{eqb}
 use Rattle.packet.specs.declared.header.Kind.{Kind}
 use Rattle.packet.specs.declared.header.Kind.the-variants.{Init, Chunk, Done, Read, Aborted, AckInit, AckChunk, AckDone, Nothing}
-use Rattle.machine.specs.Values.{Key, keyOf, sameKey}
-use Rattle.machine.specs.Packet.{asked}
+use Rattle.machine.specs.Values.{Key, keyOf, sameKey, repeats}
+use Rattle.machine.specs.Packet.{Packet, asked, initLabel}
 use Rattle.ledger.specs.Run.{receive, send, Call, setup, packet, push, wake, report, takeWhole}
-use Rattle.ledger.specs.Ledger.{Page}
+use Rattle.ledger.specs.Ledger.{Page, Ledger, pageLabel}
 
 -- the elements of a list that a test picks, in their order
 unfoldable pub pick : {A : Type 0} → (A → Bool) → List A → List A
@@ -32,6 +32,10 @@ concerns k (takeWhole taken out) = false
 
 abbrev pub only : Key → List (Call × ℕ) → List (Call × ℕ)
 only k t = among (concerns k) t
+
+-- an init opens its key's page: it does not say the open one again
+abbrev pub opens : Packet → Ledger → Bool
+opens p l = not (repeats pageLabel (l .book .pages (asked p)) (initLabel p))
 
 -- the pages of a key
 abbrev pub ofKey : Key → List Page → List Page

@@ -8,16 +8,17 @@ use mathlib.Core.Bool.{Bool, true, false, cond}
 use mathlib.Core.List.{List, [], _∷_, _++_, append-nil}
 use mathlib.Core.Option.{Option, none, some}
 use lib.Dec.{eqb}
+use borrow.Author.Tests.{not-true}
 use Rattle.octets.specs.BoolsLaws.{cases, clash}
 use Rattle.packet.specs.declared.header.Kind.{Kind}
 use Rattle.packet.specs.declared.header.Kind.the-variants.{Init, Chunk, Done, Read, Aborted, AckInit, AckChunk, AckDone, Nothing}
-use Rattle.machine.specs.Values.{Key, sameKey}
-use Rattle.machine.specs.Packet.{Packet, kind, asked}
+use Rattle.machine.specs.Values.{Key, sameKey, repeats}
+use Rattle.machine.specs.Packet.{Packet, kind, asked, initLabel}
 use Rattle.machine_laws.specs.Keys.{key-eq, key-refl}
 use Rattle.ledger.specs.Run.{receive, send, Call, setup, packet, push, wake, report, takeWhole}
-use Rattle.ledger.specs.Ledger.{Page, Book, Ledger, opening, packetIn, enter, ledger}
+use Rattle.ledger.specs.Ledger.{Page, Book, Ledger, opening, pageLabel, opened, initIn, packetIn, enter, ledger}
 use Rattle.ledger.specs.Made.{pageOf, finished, madeBy, madeFrom, made}
-use Rattle.ledger.specs.Only.{pick, among, concerns, only, ofKey}
+use Rattle.ledger.specs.Only.{pick, among, concerns, only, ofKey, opens}
 use Rattle.ledger.specs.DeedsLaws.{Deed, keep, set, finish, apply, deed, deed-is, Fits, Keyed, no-page, deed-fits, keyed-apply}
 use Rattle.ledger.specs.InOrderLaws.{row-finished}
 
@@ -113,7 +114,7 @@ page-enter k (report id out) l m e = e
 page-enter k (takeWhole taken out) l m e = e
 
 -- a call that does not concern a key leaves its page
-other-enter : (k : Key) (c : Call) (l : Ledger) → concerns k c ≡ false → enter c l .book .pages k ≡ l .book .pages k
+pub other-enter : (k : Key) (c : Call) (l : Ledger) → concerns k c ≡ false → enter c l .book .pages k ≡ l .book .pages k
 unfolding enter concerns
 other-enter k (setup receive store role) l h = clash refl h
 other-enter k (setup send store role) l h = refl
@@ -228,23 +229,35 @@ own-run k (c ∷ t) l m whole part s =
 
 -- ---- the theorems
 
--- after an acknowledged init, the page of its key is that of the key's packets since, whatever came before the init
-pub since-init : (p : Packet) (out : List ℕ) (t : List (Call × ℕ)) (l m : Ledger) → kind p ≡ Init
+-- each open page has the key under which it stands
+pub ledger-keyed : (t : List (Call × ℕ)) → Keyed (ledger t opening .book)
+unfolding opening pick
+ledger-keyed t = own-run [] t opening opening [] [] (record { keyed = no-page; page = refl; messages = refl }) .keyed
+
+-- an init that opens its key's page does so with what it says
+pub opened-page : (p : Packet) (out : List ℕ) (l : Ledger) → kind p ≡ Init → opens p l ≡ true
+    → enter (packet p out) l .book .pages (asked p) ≡ some (opened (initLabel p))
+unfolding enter packetIn initIn
+opened-page p out l e x = rw (e, not-true (repeats pageLabel (l .book .pages (asked p)) (initLabel p)) x, key-refl (asked p))
+
+-- after an acknowledged init that opened it, the page of its key is that of the key's packets since, whatever came before the init
+pub since-init : (p : Packet) (out : List ℕ) (t : List (Call × ℕ)) (l m : Ledger) → kind p ≡ Init → opens p l ≡ true → opens p m ≡ true
     → ledger ((packet p out, 0) ∷ t) l .book .pages (asked p) ≡ ledger ((packet p out, 0) ∷ only (asked p) t) m .book .pages (asked p)
-unfolding ledger enter packetIn
-since-init p out t l m e = page-run (asked p) t (enter (packet p out) l) (enter (packet p out) m) (rw (e, key-refl (asked p)))
+unfolding ledger
+since-init p out t l m e x y =
+    page-run (asked p) t (enter (packet p out) l) (enter (packet p out) m) (opened-page p out l e x ∙ sym (opened-page p out m e y))
 
 -- .. and the message that its done makes of the page goes last in the row, the same whatever came before the init
-pub since-init-made : (p q : Packet) (out room : List ℕ) (t : List (Call × ℕ)) (l m : Ledger) (g : Page) → kind p ≡ Init → kind q ≡ Done → asked q ≡ asked p
+pub since-init-made : (p q : Packet) (out room : List ℕ) (t : List (Call × ℕ)) (l m : Ledger) (g : Page) → kind p ≡ Init → opens p l ≡ true → opens p m ≡ true → kind q ≡ Done → asked q ≡ asked p
     → ledger ((packet p out, 0) ∷ t) l .book .pages (asked p) ≡ some g
     → (enter (packet q room) (ledger ((packet p out, 0) ∷ t) l) .book .row ≡ ledger ((packet p out, 0) ∷ t) l .book .row ++ (g ∷ []))
     × (enter (packet q room) (ledger ((packet p out, 0) ∷ only (asked p) t) m) .book .row
     ≡ ledger ((packet p out, 0) ∷ only (asked p) t) m .book .row ++ (g ∷ []))
 unfolding enter
-since-init-made p q out room t l m g e d k o =
-    let last : (x : Ledger) → x .book .pages (asked p) ≡ some g → packetIn (kind q) q (x .book) .row ≡ x .book .row ++ (g ∷ []) =
-    λ x z. row-finished (kind q) q (x .book) (some g) (ap (x .book .pages) k ∙ z) ∙ ap (λ (n : Kind). x .book .row ++ finished n (some g)) d in
-    (last (ledger ((packet p out, 0) ∷ t) l) o, last (ledger ((packet p out, 0) ∷ only (asked p) t) m) (sym (since-init p out t l m e) ∙ o))
+since-init-made p q out room t l m g e x y d k o =
+    let last : (v : Ledger) → v .book .pages (asked p) ≡ some g → packetIn (kind q) q (v .book) .row ≡ v .book .row ++ (g ∷ []) =
+    λ v z. row-finished (kind q) q (v .book) (some g) (ap (v .book .pages) k ∙ z) ∙ ap (λ (n : Kind). v .book .row ++ finished n (some g)) d in
+    (last (ledger ((packet p out, 0) ∷ t) l) o, last (ledger ((packet p out, 0) ∷ only (asked p) t) m) (sym (since-init p out t l m e x y) ∙ o))
 
 -- a key's open page is that of its own acknowledged packets and the setups of the receive store
 pub own-page : (k : Key) (t : List (Call × ℕ)) → ledger t opening .book .pages k ≡ ledger (only k t) opening .book .pages k

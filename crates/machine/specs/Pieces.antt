@@ -2,7 +2,7 @@
 use Prim.Native.Nat.{ℕ, zero, suc, _+_}
 use mathlib.Core.Bool.{cond}
 use mathlib.Core.List.{List, [], _∷_, _++_}
-use mathlib.Core.Option.{Option}
+use mathlib.Core.Option.{Option, Option·map}
 use lib.ListN.{take, drop}
 use lib.Dec.{eqb, ltb}
 use Rattle.machine.specs.Limits.{cutBy}
@@ -18,6 +18,10 @@ newCell place index bytes = record { place = place; index = index; bytes = bytes
 -- the piece at an index, if there is one
 abbrev pub pieceAt : ℕ → List Cell → Option Cell
 pieceAt i l = find eqb (λ (c : Cell). c .index) i l
+
+-- the bytes of the piece at an index, if there is one
+abbrev pub pieceBytes : ℕ → List Cell → Option (List ℕ)
+pieceBytes i l = Option·map (λ (c : Cell). c .bytes) (pieceAt i l)
 
 -- Chunk: "the piece replaces its index": at a held index it is written in its own cell; at a new one it takes the cell at `place`, in index order
 unfoldable pub putPiece : ℕ → ℕ → List ℕ → List Cell → List Cell

@@ -4,7 +4,7 @@ use mathlib.Core.Bool.{cond}
 use mathlib.Core.List.{List, [], _∷_, _++_, map}
 use mathlib.Core.Option.{Option, none, some}
 use Rattle.machine.specs.Limits.{slotsOf}
-use Rattle.machine.specs.Values.{Label, Rec, Store, idle, Key, keyOf, sameKey}
+use Rattle.machine.specs.Values.{Label, Rec, Store, idle, Key, keyOf, sameKey, repeats}
 use Rattle.machine.specs.Chains.{first}
 use Rattle.machine.specs.Layout.{cellPlace}
 use Rattle.machine.specs.Find.{find, swap, without, isSome}
@@ -12,8 +12,11 @@ use Rattle.machine.specs.Pieces.{pieceAt, putPiece, rest}
 
 -- ---- records by key
 
+abbrev pub recLabel : Rec → Label
+recLabel r = r .label
+
 abbrev pub recKey : Rec → Key
-recKey r = keyOf (r .label)
+recKey r = keyOf (recLabel r)
 
 -- the record with a key
 abbrev pub found : Key → List Rec → Option Rec
@@ -54,9 +57,13 @@ initAt (some r) h s = record {
   freeCells = freedCells r (s .freeCells);
 }
 
+-- .. of the record that is found, if there is one: an init that says it again changes nothing
+abbrev pub initWith : Option Rec → Label → Store → Store
+initWith o h s = cond (repeats recLabel o h) s (initAt o h s)
+
 -- Init: the step for what an init says
 abbrev pub initStep : Label → Store → Store
-initStep h s = initAt (found (keyOf h) (s .held)) h s
+initStep h s = initWith (found (keyOf h) (s .held)) h s
 
 -- ---- chunk
 

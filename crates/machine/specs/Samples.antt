@@ -26,6 +26,13 @@ frame l = l ++ replicate (frameBytes - length l) 0
 unfoldable pub init : ℕ → List ℕ
 init n = frame (header id (initFlag + replyFlag) ++ be 8 n)
 
+-- the init of another survey of n bytes under the same id, about a topic of one byte
+unfoldable pub topic : List ℕ
+topic = 5 ∷ []
+
+unfoldable pub another : ℕ → List ℕ
+another n = frame (header id (initFlag + replyFlag) ++ be 8 n ++ (length topic ∷ topic))
+
 -- a chunk
 unfoldable pub chunk : ℕ → ℕ → List ℕ → List ℕ
 chunk index offset bytes = frame (chunkPacket id index offset bytes)

@@ -16,7 +16,7 @@ use Rattle.machine.specs.Find.{isSome}
 use Rattle.machine.specs.Pieces.{pieceAt}
 use Rattle.machine.specs.Receive.{found}
 use Rattle.machine.specs.Send.{due}
-use Rattle.machine.specs.Samples.{id, frame, init, chunk, Seen, hear, opened}
+use Rattle.machine.specs.Samples.{id, frame, init, another, chunk, Seen, hear, opened}
 
 -- ---- what an office answers and holds
 
@@ -36,16 +36,29 @@ abbrev pub slotsIn : Option Rec → ℕ
 slotsIn none = 0
 slotsIn (some r) = r .slots
 
+abbrev pub slotsHeld : Seen → ℕ
+slotsHeld s = slotsIn (found id (s .recv .held))
+
 abbrev pub slots : ℕ → ℕ
-slots n = slotsIn (found id (arriving n .recv .held))
+slots n = slotsHeld (arriving n)
 
 -- 1 where that record has a piece at an index
 abbrev pub pieceIn : ℕ → Option Rec → ℕ
 pieceIn index none = 0
 pieceIn index (some r) = one (isSome (pieceAt index (r .cells)))
 
+abbrev pub keeps : ℕ → Seen → ℕ
+keeps index s = pieceIn index (found id (s .recv .held))
+
 abbrev pub kept : ℕ → ℕ → ℕ → ℕ → ℕ
-kept n index offset size = pieceIn index (found id (pieced n index offset size .recv .held))
+kept n index offset size = keeps index (pieced n index offset size)
+
+-- a piece that makes the slots grow, then its init again, or another init
+abbrev pub repeated : Seen
+repeated = hear (init 500) (pieced 500 1 250 250)
+
+abbrev pub restarted : Seen
+restarted = hear (another 500) (pieced 500 1 250 250)
 
 -- a done of a count, after a piece of no bytes at index 0
 abbrev pub counted : ℕ → Seen
@@ -87,6 +100,9 @@ starred =
     ∷ value (latest (pieced 1301 1 1299 1)) shortPiece ∷ value (latest (pieced 1301 1 1301 0)) 0
     -- 500: index 0, offset 251, size 249 kept; at offset 250: 11
     ∷ value (latest (pieced 500 0 251 249)) 0 ∷ value (latest (pieced 500 0 250 249)) shortPiece
+    -- 500: index 1, offset 250, size 250, then the init again: 0, slots 2, kept; another init instead: 0, slots 1, not kept
+    ∷ value (latest repeated) 0 ∷ value (slotsHeld repeated) 2 ∷ value (keeps 1 repeated) 1
+    ∷ value (latest restarted) 0 ∷ value (slotsHeld restarted) 1 ∷ value (keeps 1 restarted) 0
     -- 1,550: index 1, offset 1,300, size 250 kept
     ∷ value (latest (pieced 1550 1 1300 250)) 0 ∷ value (kept 1550 1 1300 250) 1
     -- 251: top 1; size 249, index 0, offset 0: 11

@@ -1,7 +1,9 @@
 -- What a store holds, as a value: lists in the order of their chains, each record and cell with its place.
 use Prim.Native.Nat.{ℕ}
-use mathlib.Core.Bool.{Bool}
+use mathlib.Core.Bool.{Bool, false, _&&_}
 use mathlib.Core.List.{List}
+use mathlib.Core.Option.{Option, none, some}
+use lib.Dec.{eqb}
 use Rattle.octets.specs.Octets.{same}
 
 -- what an init says: alike in a record of a store and on a page of the ledger. `total` is its length in bytes.
@@ -65,3 +67,19 @@ keyOf h = h .id
 -- two keys are one
 unfoldable pub sameKey : Key → Key → Bool
 sameKey j k = same j k
+
+-- ---- an init that comes again
+
+-- "equal in source, destination, length, topic and reply flag"
+unfoldable pub equalInFive : Label → Label → Bool
+equalInFive g h =
+    same (g .source) (h .source)
+    && same (g .destination) (h .destination)
+    && eqb (g .total) (h .total)
+    && same (g .topic) (h .topic)
+    && eqb (g .reply) (h .reply)
+
+-- an init says again what is there under its key: a record of a store, or a page of the ledger
+abbrev pub repeats : {A : Type 0} → (A → Label) → Option A → Label → Bool
+repeats label none h = false
+repeats label (some a) h = equalInFive (label a) h

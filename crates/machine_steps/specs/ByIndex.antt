@@ -13,8 +13,8 @@ use Rattle.octets.specs.BoolsLaws.{cases, clash}
 use Rattle.machine.specs.Values.{Cell}
 use Rattle.machine.specs.Sound.{rising, sizes}
 use Rattle.machine.specs.Find.{find, isSome}
-use Rattle.machine.specs.Pieces.{pieceAt, joined}
-use Rattle.machine_steps.specs.Pieces.{pieceBytes, rising-parts, parts-rising, rising-wider, piece-below}
+use Rattle.machine.specs.Pieces.{pieceAt, pieceBytes, joined}
+use Rattle.machine_steps.specs.Pieces.{rising-parts, parts-rising, rising-wider, piece-below}
 
 -- ---- joined by index
 

@@ -1,4 +1,4 @@
--- Init: a record that starts, or starts again, leaves a receive store valid. Assumes nothing.
+-- Init: a record that starts, starts again or stays as it is leaves a receive store valid. Assumes nothing.
 use Prim.Native.Nat.{ℕ, _≤_}
 use native.Mathlib.Omega.{arith}
 use mathlib.Core.Path.{_≡_, refl}
@@ -8,14 +8,15 @@ use lib.ListN.{length}
 use lib.Dec.{ltb}
 use borrow.Author.Tests.{ltb-true}
 use Rattle.octets.specs.Octets.{capacity}
+use Rattle.octets.specs.BoolsLaws.{cases}
 use Rattle.machine.specs.Limits.{longest}
 use Rattle.machine.specs.Codes.{roleReceive, kindArriving}
-use Rattle.machine.specs.Values.{Label, Rec, Store, keyOf}
+use Rattle.machine.specs.Values.{Label, Rec, Store, keyOf, repeats}
 use Rattle.machine.specs.Chains.{first}
 use Rattle.machine.specs.Sound.{rising}
 use Rattle.machine.specs.Valid.{LabelSized, RecSized, Valid}
 use Rattle.machine.specs.Find.{isSome}
-use Rattle.machine.specs.Receive.{found, started, freedCells, initAt, initStep}
+use Rattle.machine.specs.Receive.{recLabel, found, started, freedCells, initAt, initStep}
 use Rattle.machine_laws.specs.Fine.{fine-fits}
 use Rattle.machine_steps.specs.Counts.{occurs-freed}
 use Rattle.machine_steps.specs.Keeps.{Fits}
@@ -48,6 +49,10 @@ init-at (some r) h s e w n g v =
     (started-fits (r .place) h g) (started-sized (r .place) h (g .sized)) v
 
 -- the id is not whole, and it is held or a record is free
-pub init-valid : (h : Label) (s : Store) → found (keyOf h) (s .whole) ≡ none → (isSome (found (keyOf h) (s .held)) || ltb 0 (length (s .free))) ≡ true
-    → LabelFine h → Valid roleReceive s → Valid roleReceive (initStep h s)
-init-valid h s w n g v = init-at (found (keyOf h) (s .held)) h s refl w n g v
+module _ (h : Label) (s : Store) (w : found (keyOf h) (s .whole) ≡ none) (n : (isSome (found (keyOf h) (s .held)) || ltb 0 (length (s .free))) ≡ true)
+    (g : LabelFine h) (v : Valid roleReceive s) where
+  pub started-valid : Valid roleReceive (initAt (found (keyOf h) (s .held)) h s)
+  started-valid = init-at (found (keyOf h) (s .held)) h s refl w n g v
+
+  pub init-valid : Valid roleReceive (initStep h s)
+  init-valid = cases (repeats recLabel (found (keyOf h) (s .held)) h) (λ e. rw e v) (λ e. rw e started-valid)

@@ -15,7 +15,7 @@ use Rattle.machine.specs.Counting.{occurs}
 use Rattle.machine.specs.Layout.{cellPlace}
 use Rattle.machine.specs.Sound.{rising}
 use Rattle.machine.specs.Find.{find, isSome}
-use Rattle.machine.specs.Pieces.{newCell, pieceAt, putPiece}
+use Rattle.machine.specs.Pieces.{newCell, pieceAt, pieceBytes, putPiece}
 
 -- ---- indices that rise
 
@@ -52,10 +52,6 @@ piece-below i low high (c ∷ l) a h =
     rw (ne-eqb i (c .index) (λ e. omega (arith, r .0))) (piece-below i (suc (c .index)) high l (omega (arith, r .0)) (r .2))
 
 -- ---- the bytes at an index
-
--- the bytes of the piece at an index, if there is one
-abbrev pub pieceBytes : ℕ → List Cell → Option (List ℕ)
-pieceBytes i l = Option·map (λ (c : Cell). c .bytes) (pieceAt i l)
 
 -- there are bytes where there is a piece
 pub some-bytes : (i : ℕ) (l : List Cell) → isSome (pieceBytes i l) ≡ isSome (pieceAt i l)

@@ -89,6 +89,14 @@ fn last(recv: &mut [u8; 37140], send: &mut [u8; 37140]) {
     );
 }
 
+// Its cells are free again with the init of another message, not with its own.
+fn restarted(recv: &mut [u8; 37140], send: &mut [u8; 37140]) {
+    let again = make::frame(1, 0x80, 32500, 0, 0);
+    ask::frame(b"init again, no cell free", recv, send, &again);
+    let other = make::frame(1, 0x80, 32499, 0, 0);
+    ask::frame(b"init of 32499", recv, send, &other);
+}
+
 // Chunks of a message of 32,500 bytes with every cell taken.
 pub(crate) fn cells(recv: &mut [u8; 37140], send: &mut [u8; 37140]) {
     make::fresh(recv, send);
@@ -103,8 +111,7 @@ pub(crate) fn cells(recv: &mut [u8; 37140], send: &mut [u8; 37140]) {
     last(recv, send);
     let again = make::frame(1, 0x10, 24, 0, 251);
     ask::frame(b"chunk at a held index, no cell free", recv, send, &again);
-    let restart = make::frame(1, 0x80, 32500, 0, 0);
-    ask::frame(b"init again", recv, send, &restart);
+    restarted(recv, send);
     ask::frame(b"chunk at a new index", recv, send, &next);
 }
 

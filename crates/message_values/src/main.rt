@@ -7,6 +7,7 @@ mod arrivals;
 mod ask;
 mod flags;
 mod make;
+mod repeats;
 mod rooms;
 mod sends;
 mod show;
@@ -35,6 +36,8 @@ fn main() {
     sends::kinds(&mut recv, &mut send);
     arrivals::inits(&mut recv, &mut send);
     arrivals::records(&mut recv, &mut send);
+    repeats::equal(&mut recv, &mut send);
+    repeats::others(&mut recv, &mut send);
     arrivals::chunks(&mut recv, &mut send);
     arrivals::ends(&mut recv, &mut send);
     arrivals::cells(&mut recv, &mut send);

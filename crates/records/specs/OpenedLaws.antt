@@ -29,7 +29,7 @@ use Rattle.machine_laws.specs.Walks.{head-byte}
 use Rattle.machine_laws.specs.SoundValid.{sound-valid}
 use Rattle.machine_writes.specs.Unheld.{recTail, rec-parts}
 use Rattle.machine_writes.specs.Encodes
-use Rattle.machine_steps.specs.Init.{LabelFine, init-valid}
+use Rattle.machine_steps.specs.Init.{LabelFine, started-valid}
 use Rattle.machine_writes.specs.Byte.{first-byte, put-before}
 use Rattle.machine_writes.specs.InRange.{sound-rep}
 use Rattle.records.specs.Opening.{Openable, opened, FieldsFit, newRec, frontOf, restOf, newRow, openedRow, openedWith, Ready}
@@ -170,7 +170,7 @@ module _ (b : List ℕ) (y : Bytes b) (h : Label) (g : Ready b h) where
     valid : Valid roleReceive (initAt none h s)
     valid =
         subst (λ (o : Option Rec). Valid roleReceive (initAt o h s)) (g .held)
-        (init-valid h s (g .whole) (ap (λ (o : Option Rec). isSome o || ltb 0 (length (s .free))) (g .held) ∙ ap (λ (l : List ℕ). ltb 0 (length l)) is
+        (started-valid h s (g .whole) (ap (λ (o : Option Rec). isSome o || ltb 0 (length (s .free))) (g .held) ∙ ap (λ (l : List ℕ). ltb 0 (length l)) is
         ∙ lt-ltb 0 (length (q ∷ qs)) (omega arith)) (g .fine) v)
 
     encoded : openedWith kindArriving (started (getD b freeAt 0) h) b ≡ encode (initAt none h s)

@@ -23,7 +23,7 @@ use Rattle.machine_laws.specs.Write.{Wrote, write-field, rec-leaves-cells}
 use Rattle.machine_writes.specs.Encodes
 use Rattle.machine_writes.specs.FreeCells.{cellsFreed}
 use Rattle.machine_writes.specs.Unheld.{recTail, rec-parts}
-use Rattle.machine_steps.specs.Init.{LabelFine, init-valid}
+use Rattle.machine_steps.specs.Init.{LabelFine, started-valid}
 use Rattle.records.specs.HeldAt.{placeAt, recIn, keyIn, HeldAt}
 use Rattle.records.specs.MetLaws.{valid, rep, held-here, here-key, here-sized, here-within, here-not-whole, here-links}
 use Rattle.records.specs.AroundLaws.{nextHere, around-row, around-first}
@@ -121,7 +121,7 @@ module _ (b : List ℕ) (y : Bytes b) (at : ℕ) (g : HeldAt roleReceive b at) (
     restart-valid : Valid roleReceive (initAt (some r) h s)
     restart-valid =
         subst (λ (o : Option Rec). Valid roleReceive (initAt o h s)) here
-        (init-valid h s (ap (λ (k : Key). found k (s .whole)) same ∙ here-not-whole roleReceive b y at g) (ap (λ (o : Option Rec). isSome o || ltb 0 (length (s .free))) here) fine v)
+        (started-valid h s (ap (λ (k : Key). found k (s .whole)) same ∙ here-not-whole roleReceive b y at g) (ap (λ (o : Option Rec). isSome o || ltb 0 (length (s .free))) here) fine v)
 
     encoded : clearFrom cell c ≡ encode (initAt (some r) h s)
     unfolding initAt recOf

@@ -31,7 +31,7 @@ pub fn hold(store: &mut [u8])
 }
 
 // A mark as a byte.
-fn mark(x: bool) -> u8
+pub fn mark(x: bool) -> u8
     ensures { λ r. ⌜ r ≡ one x ⌝ }
 {
     if x { 1 } else { 0 }

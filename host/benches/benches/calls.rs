@@ -43,7 +43,9 @@ fn scan(group: &mut Group<'_>, name: BenchmarkId, zero: fn(&[u8]) -> bool, cells
 /// The library's call.
 fn ours(group: &mut Group<'_>, name: BenchmarkId, scene: &Scene, cells: usize) {
     let start = Node::of(scene, cells);
-    assert_eq!(start.clone().packet(&scene.frame).err(), scene.refusal, "{}", scene.name);
+    let mut after = start.clone();
+    assert_eq!(after.packet(&scene.frame).err(), scene.refusal, "{}", scene.name);
+    assert_eq!(after.holds_the_same(&start), scene.changes_nothing, "{}", scene.name);
     time(group, name, &start, |node| {
         node.packet(black_box(&scene.frame)).map(|(run, wake)| (run.as_bytes().len(), wake))
     });

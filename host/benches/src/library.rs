@@ -47,6 +47,11 @@ impl Node {
         self.send.as_bytes().len()
     }
 
+    /// Whether its stores hold what those of another hold, byte for byte.
+    pub fn holds_the_same(&self, other: &Self) -> bool {
+        self.receive == other.receive && self.send == other.send
+    }
+
     /// Takes a message to be sent to the peer.
     pub fn push(&mut self, id: Id, data: &[u8]) -> Run<'_> {
         let push = Push {

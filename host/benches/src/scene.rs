@@ -15,23 +15,42 @@ pub enum Step {
     Packet(Vec<u8>),
 }
 
-/// A packet call: the steps before it, the frame that it is about, and the refusal that it meets.
+/// A packet call: the steps before it, the frame that it is about, the refusal that it meets, and whether each byte
+/// of the library's stores is the same after it.
 pub struct Scene {
     pub name: &'static str,
     pub steps: Vec<Step>,
     pub frame: Vec<u8>,
     pub refusal: Option<Refusal>,
+    pub changes_nothing: bool,
 }
 
 impl Scene {
     fn new(name: &'static str, steps: Vec<Step>, frame: Vec<u8>) -> Self {
-        Self { name, steps, frame, refusal: None }
+        Self { name, steps, frame, refusal: None, changes_nothing: false }
+    }
+
+    /// A call that leaves the stores as they were.
+    fn changing_nothing(self) -> Self {
+        Self { changes_nothing: true, ..self }
+    }
+
+    /// The init of the first message that arrives, once more.
+    fn init_again(steps: Vec<Step>) -> Self {
+        Self::new("init-again", steps, init(arriving(0))).changing_nothing()
+    }
+
+    /// An init of the first message that arrives, which has another length now.
+    fn init_restart(steps: Vec<Step>) -> Self {
+        let frame = framed(frame::init(arriving(0), 0, LONGEST as u64 - 1, TOPIC));
+        Self::new("init-restart", steps, frame)
     }
 
     /// A read packet for a message that nobody sent.
     fn read_unknown(steps: Vec<Step>) -> Self {
         let frame = bare(UNKNOWN, READ);
-        Self { refusal: Some(Refusal::UnknownId), ..Self::new("read-unknown", steps, frame) }
+        let scene = Self::new("read-unknown", steps, frame).changing_nothing();
+        Self { refusal: Some(Refusal::UnknownId), ..scene }
     }
 }
 
@@ -113,9 +132,10 @@ pub fn full(cells: usize) -> Vec<Scene> {
     let held = cells.min(SLOTS) / 2;
     vec![
         Scene::new("init-new", steps(MOST_RECORDS - 1, cells), init(UNKNOWN)),
-        Scene::new("init-restart", all(), init(arriving(0))),
+        Scene::init_again(all()),
+        Scene::init_restart(all()),
         Scene::new("chunk-new", steps(MOST_RECORDS, cells - 1), chunk(arriving(next.0), next.1)),
-        Scene::new("chunk-held", all(), chunk(arriving(0), held)),
+        Scene::new("chunk-held", all(), chunk(arriving(0), held)).changing_nothing(),
         Scene::new("done", all(), done(arriving(0))),
         Scene::read_unknown(all()),
         Scene::new("aborted", all(), bare(arriving(0), ABORTED)),
@@ -131,9 +151,10 @@ pub fn empty() -> Vec<Scene> {
     let started = || [pushed(), vec![Step::Packet(ack(init(leaving(0))))]].concat();
     vec![
         Scene::new("init-new", vec![], init(UNKNOWN)),
-        Scene::new("init-restart", receive(1, 0), init(arriving(0))),
+        Scene::init_again(receive(1, 1)),
+        Scene::init_restart(receive(1, 1)),
         Scene::new("chunk-new", receive(1, 0), chunk(arriving(0), 0)),
-        Scene::new("chunk-held", receive(1, 1), chunk(arriving(0), 0)),
+        Scene::new("chunk-held", receive(1, 1), chunk(arriving(0), 0)).changing_nothing(),
         Scene::new("done", receive(1, SLOTS), done(arriving(0))),
         Scene::read_unknown(vec![]),
         Scene::new("aborted", receive(1, 0), bare(arriving(0), ABORTED)),

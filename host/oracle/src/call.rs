@@ -122,8 +122,11 @@ pub enum Woke {
     Unseen,
 }
 
+pub const CLOSED_TOPIC: u64 = 4;
 pub const UNKNOWN_ID: u64 = 8;
 pub const SHORT_PIECE: u64 = 11;
+pub const GAP: u64 = 14;
+pub const SUM: u64 = 16;
 pub const NO_WORK: u64 = 20;
 pub const TOPIC_TOO_LARGE: u64 = 21;
 pub const NONE_WHOLE: u64 = 23;

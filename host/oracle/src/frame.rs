@@ -39,6 +39,11 @@ pub fn kind(flags: u8) -> Kind {
     }
 }
 
+/// Whether the flags say an init that is no acknowledgement.
+pub fn is_init(flags: u8) -> bool {
+    flags & ACK == 0 && kind(flags) == Kind::Init
+}
+
 /// A packet with an empty body.
 pub fn bare(id: Id, flags: u8) -> Vec<u8> {
     [&id[..], &[flags, 0, 0, 0]].concat()
@@ -62,6 +67,11 @@ pub fn done(id: Id, flags: u8, count: u64, sum: &[u8; 32]) -> Vec<u8> {
 pub fn field(frame: &[u8], place: usize) -> u64 {
     let at = 12 + 8 * place;
     u64::from_be_bytes(frame[at..at + 8].try_into().expect("eight bytes"))
+}
+
+/// The topic of an init.
+pub fn topic(frame: &[u8]) -> &[u8] {
+    &frame[21..21 + usize::from(frame[20])]
 }
 
 /// The bytes of a chunk's piece.

@@ -46,7 +46,7 @@ pub fn address(key: &[u8; 32]) -> Result<Address, u64> {
 }
 
 /// A node: both stores, and what a host keeps beside them.
-#[derive(Clone)]
+#[derive(Clone, PartialEq, Eq)]
 pub struct Node {
     address: Address,
     recv: Vec<u8>,

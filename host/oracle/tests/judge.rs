@@ -46,7 +46,7 @@ mod with_the_original {
     const SEEDS: &str = "40";
 
     /// Each fault, with the call at which it must show.
-    const FAULTS: [(&str, &str); 10] = [
+    const FAULTS: [(&str, &str); 15] = [
         ("reply", "packet"),
         ("report", "report"),
         ("take", "take"),
@@ -57,7 +57,16 @@ mod with_the_original {
         ("number", "packet"),
         ("leave", "packet"),
         ("stay", "packet"),
+        ("leave-init", "packet"),
+        ("leave-early", "packet"),
+        ("stay-init", "packet"),
+        ("restart", "packet"),
+        ("skip", "packet"),
     ];
+
+    /// Why ids leave.
+    const SHORT_LAST_PIECE: &str = "C-11, a short last piece";
+    const EQUAL_INIT: &str = "C-12, an equal init";
 
     /// How many sequences are searched for one in which an id leaves before a difference.
     const SEARCHED: u64 = 400;
@@ -88,7 +97,8 @@ mod with_the_original {
             last.split(' ').next().and_then(|number| number.parse().ok()).expect("a number of calls");
         assert!(calls > 10_000, "{last}");
         let left = text.lines().find(|line| line.contains(" ids left the comparison: ")).expect("who left");
-        assert!(left.contains(": C-11, a short last piece: ") && !left.starts_with("  0 of "), "{left}");
+        let told = [format!(": {SHORT_LAST_PIECE}: "), format!("; {EQUAL_INIT}: ")];
+        assert!(told.iter().all(|why| left.contains(why)) && !left.starts_with("  0 of "), "{left}");
     }
 
     #[test]
@@ -98,6 +108,22 @@ mod with_the_original {
             assert_eq!(status, 1, "{fault} is not found: {text}");
             assert!(text.starts_with("# seed "), "{fault}: {text}");
             assert!(last_call(&text).starts_with(call), "{fault} is found at '{}'", last_call(&text));
+        }
+    }
+
+    /// The faults that show at the packet at which an id leaves, with what is said of them.
+    #[test]
+    fn an_id_does_not_leave_without_its_difference() {
+        for (fault, listed, why) in [
+            ("leave", SHORT_LAST_PIECE, "the library answers 11 and the original 11"),
+            ("leave-init", EQUAL_INIT, "the library's stores have changed"),
+            ("leave-early", EQUAL_INIT, "the original then answers "),
+            ("restart", EQUAL_INIT, "the library's stores have changed"),
+        ] {
+            let (_, text) = oracle(&["--seeds", SEEDS, "--fault", fault]);
+            let first = text.lines().next().expect("a first line");
+            let told = format!(": left out ({listed}), though {why}");
+            assert!(first.contains(&told), "{fault}: {first}");
         }
     }
 
@@ -114,7 +140,7 @@ mod with_the_original {
 
     #[test]
     fn a_difference_comes_with_the_shortest_beginning_that_shows_it() {
-        for fault in ["reply", "leave", "stay"] {
+        for fault in ["reply", "leave", "stay", "stay-init"] {
             let (_, text) = oracle(&["--seeds", SEEDS, "--fault", fault]);
             differs_at_its_last_call(fault, &text);
         }
@@ -122,15 +148,17 @@ mod with_the_original {
 
     #[test]
     fn it_does_so_after_an_id_has_left() {
-        let found = (1..=SEARCHED).find_map(|seed| {
-            let (_, text) = oracle(&["--seeds", "1", "--first", &seed.to_string(), "--fault", "take"]);
-            (text.starts_with("# seed ") && text.contains(" has left the comparison: ")).then_some(text)
-        });
-        let text = found.expect("an id leaves before a difference");
-        assert!(
-            text.contains("C-11, a short last piece; its calls are here with the library's own answers\n")
-        );
-        differs_at_its_last_call("left", &text);
+        for (name, why) in [("short", SHORT_LAST_PIECE), ("equal", EQUAL_INIT)] {
+            let told = format!(
+                " has left the comparison: {why}; its calls are here with the library's own answers\n"
+            );
+            let found = (1..=SEARCHED).find_map(|seed| {
+                let (_, text) = oracle(&["--seeds", "1", "--first", &seed.to_string(), "--fault", "take"]);
+                (text.starts_with("# seed ") && text.contains(&told)).then_some(text)
+            });
+            let text = found.expect("an id leaves before a difference");
+            differs_at_its_last_call(&format!("left-{name}"), &text);
+        }
     }
 
     #[test]
@@ -140,9 +168,9 @@ mod with_the_original {
         assert!(text.contains("  0 of ") && text.contains(" ids left the comparison\n"), "{text}");
         let missing =
             text.lines().find(|line| line.starts_with("not met in this run: ")).expect("what is missing");
-        assert!(
-            missing.ends_with("an id that leaves the comparison (C-11, a short last piece)"),
-            "{missing}"
-        );
+        for name in [SHORT_LAST_PIECE, EQUAL_INIT] {
+            let told = format!(", an id that leaves the comparison ({name})");
+            assert!(missing.contains(&told), "{missing}");
+        }
     }
 }

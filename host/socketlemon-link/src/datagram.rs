@@ -86,11 +86,6 @@ impl Arrived {
         Id(id)
     }
 
-    /// Whether it is an init, without ack.
-    pub fn is_init(&self) -> bool {
-        self.frame[FLAGS] & (INIT | ACK) == INIT
-    }
-
     /// Whether it is a done, without ack.
     pub fn is_done(&self) -> bool {
         self.frame[FLAGS] & (INIT | CHUNK | DONE | ACK) == DONE
@@ -141,23 +136,15 @@ mod tests {
         assert_eq!(Arrived::read(&[5; MOST], OWN).err(), Some(Dropped::NotOurs));
     }
 
-    /// The flag bytes of which something is true.
-    fn flags(is: fn(&Arrived) -> bool) -> Vec<u8> {
+    #[test]
+    fn dones_are_told_from_the_rest() {
         let mut arrived = Arrived::aborted(Id([1; 8]), OWN);
         assert_eq!(arrived.id(), Id([1; 8]));
-        let fits = |flags: &u8| {
+        let is_done = |flags: &u8| {
             arrived.frame[8] = *flags;
-            is(&arrived)
+            arrived.is_done()
         };
-        (0..=255).filter(fits).collect()
-    }
-
-    #[test]
-    fn inits_and_dones_are_told_from_the_rest() {
-        let inits = flags(Arrived::is_init);
-        assert_eq!(inits.len(), 64, "the init flag, no ack, any of the other six");
-        assert!(inits.iter().all(|flags| flags & 0x81 == 0x80));
-        let dones = flags(Arrived::is_done);
+        let dones: Vec<u8> = (0..=255).filter(is_done).collect();
         assert_eq!(dones.len(), 16, "the done flag, none of init, chunk and ack, any of the other four");
         assert!(dones.iter().all(|flags| flags & 0xd1 == 0x40));
     }

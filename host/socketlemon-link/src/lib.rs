@@ -11,7 +11,6 @@ pub mod datagram;
 pub mod failure;
 pub mod faults;
 pub mod files;
-pub mod inits;
 pub mod kept;
 pub mod keys;
 pub mod office;

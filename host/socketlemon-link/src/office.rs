@@ -4,14 +4,15 @@ use crate::counts::Counts;
 use crate::datagram::{Arrived, MOST};
 use crate::failure::Failure;
 use crate::faults::Odds;
-use crate::inits;
 use crate::kept::Kept;
 use crate::keys::{Key, Known};
 use crate::peers::Peers;
 use crate::port::Port;
 use crate::silence::Silence;
 use crate::surveys::Surveys;
-use socketlemon::{Address, Kind, Record, Refusal, Role, Rules, Run, Store, LONGEST_RUN, PACKET_RUN};
+use socketlemon::{
+    Address, Arrival, Kind, Record, Refusal, Role, Rules, Run, Store, LONGEST_RUN, PACKET_RUN,
+};
 use std::net::{SocketAddr, SocketAddrV6};
 use std::path::PathBuf;
 use std::time::{Duration, Instant};
@@ -187,8 +188,8 @@ impl Office {
     fn packet(&mut self, arrived: &Arrived, run: &mut [u8]) -> Result<usize, Refusal> {
         let known = self.record(arrived).map_or(false, |record| self.known.has(record.source));
         let Office { kept, nothing_to_send, rules, .. } = self;
-        let answer = inits::packet(&mut kept.store, nothing_to_send, arrived, rules, known, run)?;
-        Ok(answer.run.as_bytes().len())
+        let arrival = Arrival { frame: &arrived.frame, from: arrived.from, to: arrived.to, rules, known };
+        Ok(kept.store.packet(nothing_to_send, &arrival, run)?.run.as_bytes().len())
     }
 
     /// The arriving record of a packet's id.

@@ -234,8 +234,11 @@ fn an_init_that_comes_again_loses_no_piece() {
     let data = survey(1_300, 0);
     let mut tablet = Tablet::push(&folder, &voice, &data);
     let [init, _, done] = tablet.send_all(&voice);
+    let kept = || std::fs::read(folder.path("out/office.store")).expect("the office's file");
+    let before = kept();
     let again = tablet.ask(&voice, &init).expect("an acknowledgement");
     assert_eq!((again.frame[8], &again.frame[12..21]), (0x81, &init[12..21]));
+    assert!(kept() == before, "what the office keeps is as it was");
     assert_eq!(tablet.ask(&voice, &done).expect("the receipt").frame[8], 0x41);
     assert_eq!(voice.receive(tablet.own).expect("the read packet").frame[8], 0x08);
     assert!(folder.surveys() == [data]);

@@ -105,6 +105,9 @@ impl Store {
     }
 
     /// Handles one packet that arrived; `self` is the receive store, `send` the send store. The run buffer has at least [`PACKET_RUN`](crate::PACKET_RUN) bytes.
+    ///
+    /// An init of an arriving message that is equal to the one that opened it in source, destination, length, topic and reply flag is acknowledged, and
+    /// changes nothing; any other starts the message again.
     pub fn packet<'r>(
         &mut self,
         send: &mut Store,

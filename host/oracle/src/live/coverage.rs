@@ -2,9 +2,10 @@
 
 use std::collections::{BTreeMap, BTreeSet};
 
-use crate::call::{Call, Said, Wake, Woke, TOPIC_TOO_LARGE};
+use crate::call::{Call, Packet, Said, Wake, Woke, CLOSED_TOPIC, TOPIC_TOO_LARGE};
 use crate::frame::{self, Kind};
 use crate::live::left::Listed;
+use crate::live::tally::{Label, Tally};
 
 #[derive(Default)]
 pub struct Coverage {
@@ -29,7 +30,7 @@ pub struct Coverage {
 pub const BOUNDARY_LENGTHS: [usize; 11] = [0, 1, 249, 250, 251, 1299, 1300, 1301, 1550, 32_499, 32_500];
 
 /// What a full run must have met at least once.
-const NEEDED: [&str; 21] = [
+const NEEDED: [&str; 23] = [
     "push",
     "push, topic too large",
     "reply pushed",
@@ -51,11 +52,25 @@ const NEEDED: [&str; 21] = [
     "report of an unknown id",
     "take",
     "address",
+    EQUAL_INIT,
+    REFUSED_INIT,
+];
+
+const EQUAL_INIT: &str = "init again, before any piece";
+const REFUSED_INIT: &str = "init again behind a piece, refused";
+
+/// What it must have met besides: inits that differ from the one that opened their message in this alone.
+const OTHER_INITS: [(&str, &str); 5] = [
+    ("source", "init behind a piece, another source"),
+    ("destination", "init behind a piece, another destination"),
+    ("length", "init behind a piece, another length"),
+    ("topic", "init behind a piece, another topic"),
+    ("reply flag", "init behind a piece, another reply flag"),
 ];
 
 /// Of 100 ids, at most so many may leave the comparison of a full run: with more it compares too little.
-/// This is a little above what a full run has: 4.4.
-const MOST_LEFT: u64 = 5;
+/// This is a little above what a full run has: 6.6.
+const MOST_LEFT: u64 = 7;
 
 impl Coverage {
     /// Takes over what another part of the run has met.
@@ -79,6 +94,23 @@ impl Coverage {
     /// A call was left out.
     pub fn outside(&mut self, why: String) {
         *self.outside.entry(why).or_default() += 1;
+    }
+
+    /// A packet was compared, while the tally was as before it: whether it was an init of a message that arrives,
+    /// and how it differed from the one that opened it.
+    pub fn init(&mut self, packet: &Packet, said: &Said, tally: &Tally) {
+        let Some(message) = tally.opened_before(packet) else {
+            return;
+        };
+        let differs_in = message.label.differs_in(&Label::of(packet));
+        match (&differs_in[..], message.pieces.is_empty(), said.number) {
+            ([], true, 0) => self.saw(EQUAL_INIT),
+            ([], false, CLOSED_TOPIC) => self.saw(REFUSED_INIT),
+            ([one], false, 0) => {
+                OTHER_INITS.iter().filter(|(name, _)| name == one).for_each(|(_, what)| self.saw(what))
+            }
+            _ => {}
+        }
     }
 
     /// An id was pushed or announced for the first time.
@@ -141,6 +173,7 @@ impl Coverage {
     pub fn missing(&self) -> Vec<String> {
         let mut missing: Vec<String> = NEEDED
             .iter()
+            .chain(OTHER_INITS.iter().map(|(_, what)| what))
             .filter(|what| !self.calls.contains_key(*what) && !self.seen.contains_key(*what))
             .map(|what| what.to_string())
             .collect();
@@ -212,6 +245,7 @@ fn add<T: Ord>(to: &mut BTreeMap<T, u64>, more: BTreeMap<T, u64>) {
 #[cfg(test)]
 mod tests {
     use super::*;
+    use crate::call::{Setup, ACK, FRAME};
 
     /// A run that met so many ids, of which so many left.
     fn met(ids: u64, left: u64) -> Coverage {
@@ -233,12 +267,64 @@ mod tests {
     #[test]
     fn ids_that_leave_are_counted_over_all_parts() {
         let mut coverage = met(3, 0);
-        let missing = "an id that leaves the comparison (C-11, a short last piece)".to_string();
+        let missing = |coverage: &Coverage| {
+            let by =
+                |name| coverage.missing().contains(&format!("an id that leaves the comparison ({name})"));
+            Listed::ALL.map(|why| by(why.name()))
+        };
         assert_eq!(coverage.left_line(), "  0 of 3 ids left the comparison\n");
-        assert!(coverage.missing().contains(&missing));
+        assert_eq!(missing(&coverage), [true, true]);
         coverage.join(met(4, 2));
-        assert!(!coverage.missing().contains(&missing));
+        assert_eq!(missing(&coverage), [false, true]);
         let line = "  2 of 7 ids left the comparison: C-11, a short last piece: 2\n";
         assert!(coverage.lines().ends_with(line), "{}", coverage.lines());
+        coverage.left(Listed::EqualInit);
+        assert_eq!(missing(&coverage), [false, false]);
+        let line = "  3 of 7 ids left the comparison: C-11, a short last piece: 2; C-12, an equal init: 1\n";
+        assert!(coverage.lines().ends_with(line), "{}", coverage.lines());
+    }
+
+    fn packet(mut bytes: Vec<u8>) -> Packet {
+        bytes.resize(FRAME, 0);
+        Packet { from: [1; 16], to: [2; 16], bytes }
+    }
+
+    #[test]
+    fn inits_of_an_arriving_message_are_told_apart() {
+        let mut coverage = Coverage::default();
+        let mut tally = Tally::new(&Setup { key: [0; 32], recv_cells: 2, send_cells: 2 });
+        let init = packet(frame::init([1; 8], 0, 2_000, b"ducts"));
+        let [done, refused] = [0, CLOSED_TOPIC].map(|number| Said { number, ..Said::default() });
+        let replied = Said { packets: vec![init.clone()], ..Said::default() };
+        coverage.init(&init, &done, &tally);
+        assert!(coverage.seen.is_empty(), "the first");
+        tally.handled(&init, &replied);
+        coverage.init(&packet(frame::init([1; 8], 0, 1_999, b"ducts")), &done, &tally);
+        coverage.init(&packet(frame::init([1; 8], ACK, 2_000, b"ducts")), &done, &tally);
+        coverage.init(&init, &refused, &tally);
+        assert!(coverage.seen.is_empty(), "another before any piece, an acknowledgement, a refused one");
+        coverage.init(&init, &done, &tally);
+        assert_eq!(coverage.seen, [(EQUAL_INIT, 1)].into());
+        tally.handled(&packet(frame::chunk([1; 8], 0, 0, 0, 250, &[])), &replied);
+        coverage.init(&init, &refused, &tally);
+        assert_eq!(coverage.seen, [(EQUAL_INIT, 1), (REFUSED_INIT, 1)].into());
+        let others = [
+            Packet { from: [3; 16], ..init.clone() },
+            Packet { to: [3; 16], ..init.clone() },
+            packet(frame::init([1; 8], 0, 1_999, b"ducts")),
+            packet(frame::init([1; 8], 0, 2_000, b"duct")),
+            packet(frame::init([1; 8], frame::REPLY, 2_000, b"ducts")),
+        ];
+        for (other, (_, what)) in others.iter().zip(OTHER_INITS) {
+            assert!(coverage.missing().contains(&what.to_string()));
+            coverage.init(other, &refused, &tally);
+            assert!(!coverage.seen.contains_key(what), "refused: {what}");
+            coverage.init(other, &done, &tally);
+            assert_eq!(coverage.seen.get(what), Some(&1), "{what}");
+            assert!(!coverage.missing().contains(&what.to_string()));
+        }
+        let seen = coverage.seen.clone();
+        coverage.init(&Packet { from: [3; 16], to: [3; 16], ..init }, &done, &tally);
+        assert_eq!(coverage.seen, seen, "it differs in two");
     }
 }

@@ -1,13 +1,16 @@
-//! Deliberate faults in what the judge is told to expect: each must be found.
+//! Deliberate faults, in what the judge is told to expect or in what the library is made to do: each must be
+//! found.
 
-use crate::call::{Call, Packet, Said, Wake, Woke, SHORT_PIECE};
-use crate::live::left::{acknowledged, Listed, Short};
+use crate::call::{Call, Got, Packet, Said, Wake, Woke, FRAME, SHORT_PIECE};
+use crate::frame;
+use crate::library::Node;
+use crate::live::left::{acknowledged, Again, Listed, Short};
 use crate::live::tally::Tally;
 
 const PAST_END: u64 = 9;
 const HIGH_INDEX: u64 = 10;
 
-/// A fault in the expectations.
+/// A fault.
 #[derive(Clone, Copy, Debug, PartialEq, Eq)]
 pub enum Fault {
     /// A reply with its last byte changed.
@@ -28,12 +31,22 @@ pub enum Fault {
     Number,
     /// An id left out at every short piece below top, whether it ends its message or not.
     Leave,
-    /// No id left out.
+    /// No id left out at a short last piece.
     Stay,
+    /// An id left out at every init behind a piece, whether it is equal or not.
+    LeaveInit,
+    /// An id left out at an equal init, also where there is no piece to lose yet.
+    LeaveEarly,
+    /// No id left out at an equal init.
+    StayInit,
+    /// The library starts a message again with an equal init.
+    Restart,
+    /// The library acknowledges any other init behind a piece and does nothing.
+    Skip,
 }
 
 /// Each fault by the name that the command line knows.
-pub const FAULTS: [(&str, Fault); 10] = [
+pub const FAULTS: [(&str, Fault); 15] = [
     ("reply", Fault::Reply),
     ("report", Fault::Report),
     ("take", Fault::Take),
@@ -44,6 +57,11 @@ pub const FAULTS: [(&str, Fault); 10] = [
     ("number", Fault::Number),
     ("leave", Fault::Leave),
     ("stay", Fault::Stay),
+    ("leave-init", Fault::LeaveInit),
+    ("leave-early", Fault::LeaveEarly),
+    ("stay-init", Fault::StayInit),
+    ("restart", Fault::Restart),
+    ("skip", Fault::Skip),
 ];
 
 impl Fault {
@@ -74,10 +92,35 @@ impl Fault {
 
     /// Spoils which listed difference treats a packet otherwise than the original.
     pub fn mislead(self, packet: &Packet, tally: &Tally, listed: Option<Listed>) -> Option<Listed> {
+        let again = || Again::of(packet, tally);
         match self {
-            Self::Leave => Short::of(packet, tally).map(|_| Listed::ShortLastPiece),
-            Self::Stay => None,
+            Self::Leave if Short::of(packet, tally).is_some() => Some(Listed::ShortLastPiece),
+            Self::Stay => listed.filter(|why| *why != Listed::ShortLastPiece),
+            Self::LeaveInit if again().is_some_and(|init| init.is_late()) => Some(Listed::EqualInit),
+            Self::LeaveEarly if again().is_some_and(|init| init.is_equal()) => Some(Listed::EqualInit),
+            Self::StayInit => listed.filter(|why| *why != Listed::EqualInit),
             _ => listed,
         }
     }
+
+    /// Makes a call of the library, or what the fault makes of it.
+    pub fn call(self, node: &mut Node, call: &Call, tally: &Tally) -> Got {
+        match (self, call) {
+            (Self::Restart, Call::Packet(packet)) if is_late_init(packet, tally, true) => {
+                let mut bytes = frame::bare(packet.id(), frame::ABORTED);
+                bytes.resize(FRAME, 0);
+                node.call(&Call::Packet(Packet { bytes, ..packet.clone() }));
+                node.call(call)
+            }
+            (Self::Skip, Call::Packet(packet)) if is_late_init(packet, tally, false) => {
+                node.clone().call(call)
+            }
+            _ => node.call(call),
+        }
+    }
+}
+
+/// Whether a packet is an init behind a piece, and equal to the one that opened its message or not.
+fn is_late_init(packet: &Packet, tally: &Tally, is_equal: bool) -> bool {
+    Again::of(packet, tally).is_some_and(|init| init.is_late() && init.is_equal() == is_equal)
 }

@@ -8,7 +8,7 @@ use crate::live::coverage::BOUNDARY_LENGTHS;
 use crate::live::rng::Rng;
 use crate::live::rules::Book;
 use crate::live::run::Step;
-use crate::live::tally::Tally;
+use crate::live::tally::{Label, Tally};
 
 /// Packets on the link, at most.
 const IN_FLIGHT: usize = 150;
@@ -92,7 +92,11 @@ impl Plan {
         match self.rng.below(100) {
             0..=7 => Step::Call(Call::Push(self.push())),
             8..=45 => self.deliver(tally, clock),
-            46..=53 => Step::Call(Call::Packet(self.mutated(tally))),
+            46..=52 => Step::Call(Call::Packet(self.mutated(tally))),
+            53 => match self.late_init(tally) {
+                Some(packet) => Step::Call(Call::Packet(packet)),
+                None => self.deliver(tally, clock),
+            },
             54..=65 => {
                 let bytes = self.crafted(tally);
                 Step::Call(Call::Packet(self.framed_from_anyone(bytes)))
@@ -292,9 +296,39 @@ impl Plan {
         }
     }
 
+    /// An init of a message that has arrived in part, if there is one: with another of the five things that an
+    /// init says, now and then with all the same. The rest of the header is anything.
+    fn late_init(&mut self, tally: &Tally) -> Option<Packet> {
+        let in_part = tally.arriving.iter().filter(|(_, message)| !message.pieces.is_empty());
+        let held: Vec<(Id, &Label)> = in_part.map(|(id, message)| (*id, &message.label)).collect();
+        if held.is_empty() {
+            return None;
+        }
+        let (id, label) = *self.rng.pick(&held);
+        let Label { source: mut from, destination: mut to, mut length, mut topic, mut reply } = label.clone();
+        let bit = self.rng.below(128) as usize;
+        match self.rng.below(31) {
+            0 => {}
+            1..=6 => from[bit / 8] ^= 0x80 >> (bit % 8),
+            7..=12 => to[bit / 8] ^= 0x80 >> (bit % 8),
+            13..=18 => length ^= 1 << self.rng.below(12),
+            19..=24 if topic.len() < 255 && (topic.is_empty() || self.rng.one_in(2)) => topic.push(0),
+            19..=24 if self.rng.one_in(2) => topic.truncate(topic.len() - 1),
+            19..=24 => topic[0] ^= 1,
+            _ => reply = !reply,
+        }
+        let flags = if reply { frame::REPLY } else { 0 };
+        let mut bytes = frame::init(id, flags, length, &topic);
+        if self.rng.one_in(2) {
+            bytes[8] |= self.rng.next() as u8 & !(ACK | frame::REPLY);
+            bytes[9..12].copy_from_slice(&self.rng.bytes::<3>());
+        }
+        Some(self.framed(Packet { from, to, bytes }))
+    }
+
     /// A chunk near what its message, if there is one, allows.
     fn chunk(&mut self, id: Id, flags: u8, tally: &Tally) -> Vec<u8> {
-        let length = tally.arriving.get(&id).map_or(1_550, |m| m.length);
+        let length = tally.arriving.get(&id).map_or(1_550, |m| m.label.length);
         let top = if length == 0 { 0 } else { (length - 1) / 250 };
         let index = match self.rng.below(5) {
             0 => top,

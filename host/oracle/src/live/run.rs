@@ -132,7 +132,8 @@ impl<'a> Run<'a> {
             self.throw_away_left();
         }
         let listed = self.listed(&call);
-        let got = self.node.call(&call);
+        let before = listed.map(|_| self.node.clone());
+        let got = self.ask_library(&call);
         if got.is_added_refusal() {
             return self.added_refusal(call, &got);
         }
@@ -146,9 +147,11 @@ impl<'a> Run<'a> {
             }
             _ => Vec::new(),
         };
-        if let (Some(why), Call::Packet(packet)) = (listed, &call) {
-            said.packets = sent;
-            return self.leave(why, packet.clone(), &got, &said).map(|()| Vec::new());
+        if let (Some(why), Some(before), Call::Packet(packet)) = (listed, before, &call) {
+            if !why.is_refused(&said) {
+                said.packets = sent;
+                return self.leave(why, packet.clone(), &before, &got, &said).map(|()| Vec::new());
+            }
         }
         if let Some(fault) = self.fault {
             fault.spoil(&call, &mut said);
@@ -169,6 +172,14 @@ impl<'a> Run<'a> {
         }
         self.coverage.outside(format!("answered {}", got.number));
         Ok(Vec::new())
+    }
+
+    /// Makes a call of the library, or what a fault makes of it.
+    fn ask_library(&mut self, call: &Call) -> Got {
+        match self.fault {
+            Some(fault) => fault.call(&mut self.node, call, &self.tally),
+            None => self.node.call(call),
+        }
     }
 
     /// Makes a call of the original, or what a fault makes of it.
@@ -192,7 +203,12 @@ impl<'a> Run<'a> {
                 self.tally.pushed(push, self.clock);
             }
             Call::Packet(packet) => {
-                self.tally.handled(packet, said);
+                if self.left.has(&packet.id()) {
+                    self.tally.handled_here(packet, said);
+                } else {
+                    self.coverage.init(packet, said, &self.tally);
+                    self.tally.handled(packet, said);
+                }
                 if self.tally.arriving.contains_key(&packet.id()) {
                     self.meet(packet.id());
                 }

@@ -19,10 +19,11 @@ const RANDOM_BYTES: usize = 45_000;
 /// Every number that the original has a counterpart for, but 23.
 const NUMBERS: [u64; 16] = [0, 4, 5, 8, 9, 10, 11, 13, 14, 15, 16, 17, 18, 19, 20, 21];
 
-/// Each list with its name: two made by hand, and random ones until every number has come up in those.
+/// Each list with its name: three made by hand, and random ones until every number has come up in those.
 /// A random list that would end early is not kept.
 pub fn samples() -> Result<Vec<(String, List)>, Difference> {
-    let mut samples = vec![("lengths".to_string(), lengths()?), ("flags".to_string(), flags()?)];
+    let by_hand = [("lengths", lengths()?), ("flags", flags()?), ("inits", inits()?)];
+    let mut samples = Vec::from(by_hand.map(|(name, list)| (name.to_string(), list)));
     let mut wanted = BTreeSet::from(NUMBERS);
     for seed in 1.. {
         let list = compare::one(seed, RANDOM_STEPS, &mut Coverage::default(), None)?;
@@ -120,5 +121,56 @@ fn flags() -> Result<List, Difference> {
             run.step(Step::Call(Call::Report(id)))?;
         }
     }
+    Ok(run.into_list())
+}
+
+/// Hands frames to both sides.
+fn hand(run: &mut Run<'_>, packets: &[&Packet]) -> Result<(), Difference> {
+    packets.iter().try_for_each(|packet| run.step(Step::Call(Call::Packet(framed(packet)))).map(drop))
+}
+
+/// Inits of a message that has arrived in part, and of which the slots have grown from two to ten.
+/// One that differs in the source, the destination, the length, the topic or the reply flag starts it again,
+/// and one that is refused changes nothing, as dones show by their refusals. Then it becomes whole.
+/// The last init is equal to the one before it, behind a piece: there the list ends.
+fn inits() -> Result<List, Difference> {
+    let (setup, mut coverage) = (setup(), Coverage::default());
+    let me = stack::address(&setup.key);
+    let mut run = Run::new(setup, START, &mut coverage, None)?;
+    run.step(Step::Call(Call::Known([PEER].into())))?;
+    let id: Id = [1; 8];
+    let packet = |bytes| Packet { from: PEER, to: me, bytes };
+    let init = packet(frame::init(id, 0, 2_600, b"ducts"));
+    let piece = |index| packet(frame::chunk(id, 0, index, 1_300 * (index % 2), 1_300, &[3; 1_300]));
+    let [first, second, tenth] = [0, 1, 9].map(piece);
+    let done = |count| packet(frame::done(id, 0, count, blake3::hash(&[3; 2_600]).as_bytes()));
+    let [of_two, of_ten] = [2, 10].map(done);
+    let other = |change: fn(&mut Packet)| {
+        let mut other = init.clone();
+        change(&mut other);
+        other
+    };
+    let reply = other(|init| init.bytes[8] |= frame::REPLY);
+    let shorter = other(|init| {
+        init.bytes[20] -= 1;
+        init.bytes.truncate(25);
+    });
+    for changed in [
+        &other(|init| init.from[15] ^= 1),
+        &other(|init| init.to[15] ^= 1),
+        &other(|init| init.bytes[19] -= 1),
+        &other(|init| init.bytes[21] ^= 1),
+        &shorter,
+        &reply,
+    ] {
+        hand(&mut run, &[&init, &init, &first, &tenth, changed, &of_ten, &of_two])?;
+    }
+    hand(&mut run, &[&init, &first, &tenth])?;
+    run.step(Step::Call(Call::Rules(vec![1])))?;
+    hand(&mut run, &[&init, &of_two, &of_ten, &reply, &of_ten])?;
+    run.step(Step::Call(Call::Rules(vec![0])))?;
+    hand(&mut run, &[&first, &second, &of_two, &init])?;
+    run.step(Step::Call(Call::Take))?;
+    hand(&mut run, &[&init, &init, &first, &init])?;
     Ok(run.into_list())
 }

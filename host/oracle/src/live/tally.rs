@@ -4,7 +4,7 @@
 
 use std::collections::BTreeMap;
 
-use crate::call::{Call, Id, Packet, Push, Said, Setup, Taken, ACK, UNKNOWN_ID};
+use crate::call::{Address, Call, Id, Packet, Push, Said, Setup, Taken, ACK, UNKNOWN_ID};
 use crate::frame::{self, Kind};
 
 const RECORDS: usize = 8;
@@ -31,10 +31,52 @@ pub struct Due {
     pub deadlines: usize,
 }
 
+/// What an init says of its message. Two inits of an id are equal if they say the same.
+#[derive(Clone, Debug, Default, PartialEq, Eq)]
+pub struct Label {
+    pub source: Address,
+    pub destination: Address,
+    pub length: u64,
+    pub topic: Vec<u8>,
+    pub reply: bool,
+}
+
+impl Label {
+    /// What a packet says that is an init.
+    pub fn of(init: &Packet) -> Self {
+        Self {
+            source: init.from,
+            destination: init.to,
+            length: frame::field(&init.bytes, 0),
+            topic: frame::topic(&init.bytes).to_vec(),
+            reply: init.flags() & frame::REPLY != 0,
+        }
+    }
+
+    /// In which of the five another differs, by name.
+    pub fn differs_in(&self, other: &Self) -> Vec<&'static str> {
+        let Self { source, destination, length, topic, reply } = self;
+        let five = [
+            ("source", *source != other.source),
+            ("destination", *destination != other.destination),
+            ("length", *length != other.length),
+            ("topic", *topic != other.topic),
+            ("reply flag", *reply != other.reply),
+        ];
+        five.into_iter().filter(|(_, differs)| *differs).map(|(name, _)| name).collect()
+    }
+}
+
+/// How many slots a message of this length has at its init.
+pub fn fresh_slots(length: u64) -> u64 {
+    length.div_ceil(CUT as u64)
+}
+
 /// A message that arrives.
 #[derive(Default)]
 pub struct Arriving {
-    pub length: u64,
+    /// What the init says that opened it.
+    pub label: Label,
     pub pieces: BTreeMap<u64, Vec<u8>>,
 }
 
@@ -47,7 +89,7 @@ impl Arriving {
     /// How many pieces a done must count.
     pub fn slots(&self) -> u64 {
         let highest = self.pieces.keys().next_back().map_or(0, |index| index + 1);
-        highest.max(self.length.div_ceil(CUT as u64))
+        highest.max(fresh_slots(self.label.length))
     }
 }
 
@@ -136,7 +178,20 @@ impl Tally {
         self.leaving.insert(push.id, new);
     }
 
-    /// A packet that came in, and what was put out for it.
+    /// The message that arrives under the id of an init, if the packet is one.
+    pub fn opened_before(&self, packet: &Packet) -> Option<&Arriving> {
+        self.arriving.get(&packet.id()).filter(|_| frame::is_init(packet.flags()))
+    }
+
+    /// A packet of an id that has left, and what the library put out for it: an equal init changes nothing.
+    pub fn handled_here(&mut self, packet: &Packet, said: &Said) {
+        let is_equal = |message: &Arriving| message.label == Label::of(packet);
+        if !self.opened_before(packet).is_some_and(is_equal) {
+            self.handled(packet, said);
+        }
+    }
+
+    /// A packet that came in, and what the original put out for it: every init opens its message anew.
     pub fn handled(&mut self, packet: &Packet, said: &Said) {
         let (id, frame) = (packet.id(), &packet.bytes);
         if packet.flags() & ACK != 0 {
@@ -144,8 +199,7 @@ impl Tally {
         }
         match (frame::kind(packet.flags()), said.packets.is_empty()) {
             (Kind::Init, false) => {
-                self.arriving
-                    .insert(id, Arriving { length: frame::field(frame, 0), pieces: BTreeMap::new() });
+                self.arriving.insert(id, Arriving { label: Label::of(packet), pieces: BTreeMap::new() });
             }
             (Kind::Chunk, false) => {
                 self.arriving
@@ -266,6 +320,47 @@ mod tests {
         assert!(tally.has_reason(&Call::Take, 23));
         tally.handled(&packet(frame::done([8; 8], 0, 0, &[0; 32])), &replied());
         assert!(!tally.has_reason(&Call::Take, 23));
+    }
+
+    #[test]
+    fn an_equal_init_changes_nothing_once_the_id_has_left() {
+        let mut tally = tally();
+        let init = packet(frame::init([1; 8], 0, 2000, b"ducts"));
+        let chunk = packet(frame::chunk([1; 8], 0, 7, 0, 300, &[]));
+        let other = packet(frame::init([1; 8], 0, 2000, b"duct"));
+        let held = |tally: &Tally| (tally.arriving[&[1; 8]].pieces.len(), tally.arriving[&[1; 8]].slots());
+        for (again, kept) in [(&init, (1, 8)), (&other, (0, 2))] {
+            tally.handled(&init, &replied());
+            tally.handled(&chunk, &replied());
+            assert_eq!(held(&tally), (1, 8));
+            tally.handled_here(again, &replied());
+            assert_eq!(held(&tally), kept);
+        }
+        tally.handled(&init, &replied());
+        tally.handled(&chunk, &replied());
+        tally.handled(&init, &replied());
+        assert_eq!(held(&tally), (0, 2), "in the original it opens the message anew");
+    }
+
+    #[test]
+    fn an_init_says_five_things() {
+        let init = packet(frame::init([1; 8], frame::REPLY, 2000, b"ducts"));
+        let label = Label::of(&init);
+        assert_eq!(label.differs_in(&label), [""; 0]);
+        let changed = |change: fn(&mut Label)| {
+            let mut other = label.clone();
+            change(&mut other);
+            label.differs_in(&other)
+        };
+        assert_eq!(changed(|other| other.source[15] ^= 1), ["source"]);
+        assert_eq!(changed(|other| other.destination[0] ^= 1), ["destination"]);
+        assert_eq!(changed(|other| other.length ^= 1), ["length"]);
+        assert_eq!(changed(|other| other.topic.push(0)), ["topic"]);
+        assert_eq!(changed(|other| other.reply = false), ["reply flag"]);
+        assert_eq!(changed(|other| *other = Label::default()), ["length", "topic", "reply flag"]);
+        let mut bytes = init.bytes.clone();
+        bytes[8..12].copy_from_slice(&[frame::INIT | frame::REPLY | 0x7a, 1, 2, 3]);
+        assert_eq!(Label::of(&Packet { bytes, ..init }), label, "the rest of the header says nothing");
     }
 
     #[test]

@@ -2,20 +2,22 @@
 use Prim.Native.Nat.{ℕ}
 use mathlib.Core.Path.{_≡_, refl, sym, _∙_}
 use mathlib.Core.List.{_++_}
-use mathlib.Core.Option.{none}
+use mathlib.Core.Option.{none, some}
 use borrow.Author.Tests.{eq-eqb, leb-true, ltb-true, not-true}
 use Rattle.octets.specs.BoolsLaws.{one-le}
 use Rattle.machine.specs.Codes.{roleReceive}
-use Rattle.machine.specs.Layout.{decode}
-use Rattle.machine.specs.Receive.{found}
+use Rattle.machine.specs.Values.{repeats}
+use Rattle.machine.specs.Layout.{recOf, decode}
+use Rattle.machine.specs.Receive.{recLabel, found}
 use Rattle.machine.specs.Refusals.{Refusals, refusal}
 use Rattle.machine.specs.Packet.{rulesRow, placeRow}
 use Rattle.machine_steps.specs.Find.{is-none}
 use Rattle.machine_steps.specs.Init.{LabelFine}
 use Rattle.machine_steps.specs.Refusals.{Clear, refusal-clear}
 use Rattle.machine_writes.specs.InRange.{links}
-use Rattle.records.specs.HeldAt.{metAt}
-use Rattle.records.specs.MetLaws.{found-none, found-some}
+use Rattle.machine_laws.specs.SoundValid.{sound-valid}
+use Rattle.records.specs.HeldAt.{metAt, recIn}
+use Rattle.records.specs.MetLaws.{found-none, found-some, here-reached}
 use Rattle.records.specs.Opening.{newLabel}
 use Rattle.records.specs.EstablishedLaws.{openable, free-is}
 use Rattle.records.specs.RefuseLaws.{front-stop, front-next, refused, done}
@@ -99,24 +101,51 @@ returns-3 c =
     let accepted = absent .before .before in
     done _ _ _ _ (sym (accepted .if2 .left) ∙ number-is (accepted .before)) (rw (none-held absent) (opened .open-arriving .ensures))
 
+-- a record is held
+some-held : (c : tie.Else3) → let n = c .before .before .before in let a = begun n .args in
+    found (a .label .id) (decode (a .recv .now) .held) ≡ some (recIn (a .recv .now) (found-at n .find-held .result))
+some-held c = let h = searched (c .before .before .before) in found-some _ _ (h .bytes) (h .sound) _ _ (h .is) (c .if3 .left)
+
+-- the init says it again, or not
+compared : (c : tie.After-says-again) → let n = c .before .before .before .before .before in let a = begun n .args in
+    c .says-again .result ≡ repeats recLabel (found (a .label .id) (decode (a .recv .now) .held)) (newLabel (a .label) (a .topic .now))
+unfolding recOf
+compared c = rw (some-held (c .before .before)) (c .says-again .ensures)
+
+says-again-requires : tie.Need-says-again-requires
+says-again-requires c κs =
+    let there = c .before in
+    let h = searched (there .before .before .before) in
+    (here-reached roleReceive _ (h .bytes) _ (here h (there .if3 .left)), begun (there .before .before .before) .pre .1)
+
+returns-4 : tie.Need-returns-4
+returns-4 c =
+    let asked = c .before in
+    let accepted = asked .before .before .before .before in
+    let h = searched (accepted .before) in
+    done _ _ _ _ (sym (accepted .if2 .left) ∙ number-is (accepted .before))
+    (rw (sym (compared asked) ∙ c .if4 .taken) (sym (sound-valid roleReceive _ (h .bytes) (h .sound) .1)))
+
 restart-requires : tie.Need-restart-requires
 restart-requires c κs =
-    let there = c .before in
+    let there = c .before .before .before .before in
     let accepted = there .before .before in
     let h = searched (accepted .before) in
     (here h (there .if3 .left), sym (own-key h (there .if3 .left)), fine accepted)
 
-returns-4 : tie.Need-returns-4
-returns-4 c =
+returns-5 : tie.Need-returns-5
+returns-5 c =
     let restarted = c .before .before in
-    let there = restarted .before .before in
+    let differs = restarted .before .before in
+    let asked = differs .before in
+    let there = asked .before .before in
     let accepted = there .before .before in
-    let h = searched (accepted .before) in
-    let some = found-some _ _ (h .bytes) (h .sound) _ _ (h .is) (there .if3 .left) in
-    done _ _ _ _ (sym (accepted .if2 .left) ∙ number-is (accepted .before)) (rw some (restarted .restart .ensures))
+    done _ _ _ _ (sym (accepted .if2 .left) ∙ number-is (accepted .before))
+    (rw (sym (compared asked) ∙ differs .if4 .left) (rw (some-held there) (restarted .restart .ensures)))
 
 pub init-spec : {M : Type 1} → statement M
 init-spec =
     tie.close
     (tie.spec (search needs) returns (search needs) (λ c. search needs) (search needs) (λ c. search needs) (search needs)
-    returns-2 (search needs) open-arriving-requires (search needs) returns-3 restart-requires (search needs) returns-4)
+    returns-2 (search needs) open-arriving-requires (search needs) returns-3 says-again-requires (search needs) returns-4
+    restart-requires (search needs) returns-5)

@@ -2,9 +2,10 @@
 //! Both sides get their packets, and nothing of them is judged.
 
 use super::{of, Difference, Run};
-use crate::call::{Call, Got, Id, Packet, Said, Taken, Wake, ACK};
-use crate::frame::{self, Kind};
+use crate::call::{Call, Got, Id, Packet, Said, Taken, Wake};
+use crate::frame;
 use crate::judge::judge;
+use crate::library::Node;
 use crate::list::Entry;
 use crate::live::left::Listed;
 use crate::live::tally::{Due, LONGEST};
@@ -24,22 +25,26 @@ impl Run<'_> {
     }
 
     /// The id of a packet leaves the comparison, if the two have differed as it is listed.
+    /// `before` is the library's node as it was before the packet.
     pub(super) fn leave(
         &mut self,
         why: Listed,
         packet: Packet,
+        before: &Node,
         got: &Got,
         said: &Said,
     ) -> Result<(), Difference> {
         let (id, asked) = (packet.id(), why.asked(&packet));
+        let otherwise = if judge(got, &asked).is_err() || !why.is_from(&packet, said) {
+            Some(format!("the library answers {} and the original {}", got.number, said.number))
+        } else if why.keeps_stores() && self.node != *before {
+            Some("the library's stores have changed".to_string())
+        } else {
+            self.probe(why, &packet)
+        };
         let call = Call::Packet(packet);
-        if judge(got, &asked).is_err() || !why.is_from(said) {
-            let why = format!(
-                "left out ({}), though the library answers {} and the original {}",
-                why.name(),
-                got.number,
-                said.number
-            );
+        if let Some(otherwise) = otherwise {
+            let why = format!("left out ({}), though {otherwise}", why.name());
             return Err(self.differ(call, asked, why));
         }
         self.end.get_or_insert((self.entries.len(), why));
@@ -47,6 +52,17 @@ impl Run<'_> {
         self.coverage.left(why);
         self.keep_unjudged(call, got);
         Ok(())
+    }
+
+    /// What shows that the original has not done with a packet what the difference is from.
+    fn probe(&self, why: Listed, packet: &Packet) -> Option<String> {
+        why.probes(packet, &self.tally).into_iter().find_map(|(probe, number)| {
+            let kind = frame::kind(probe.flags());
+            let call = Call::Packet(probe.clone());
+            let replies = self.original.call(&call).packets;
+            let told = self.tally.number(&probe, &replies, words::last_refusal());
+            (told != number).then(|| format!("the original then answers {told} to a {kind:?}, not {number}"))
+        })
     }
 
     /// A call of an id that has left: a packet goes to both sides, any other call is left out.
@@ -127,14 +143,14 @@ impl Run<'_> {
 
 /// Whether a packet is an init of a length that the original is never asked to take.
 fn is_too_long(packet: &Packet) -> bool {
-    let is_init = packet.flags() & ACK == 0 && frame::kind(packet.flags()) == Kind::Init;
-    is_init && frame::field(&packet.bytes, 0) > LONGEST
+    frame::is_init(packet.flags()) && frame::field(&packet.bytes, 0) > LONGEST
 }
 
 #[cfg(test)]
 mod tests {
     use super::*;
-    use crate::call::{Push, Setup, Woke, FRAME, MOST_CELLS};
+    use crate::call::{Push, Setup, Woke, ACK, CLOSED_TOPIC, FRAME, GAP, MOST_CELLS};
+    use crate::frame::Kind;
     use crate::list::List;
     use crate::live::clock;
     use crate::live::coverage::Coverage;
@@ -201,6 +217,119 @@ mod tests {
         assert!(list.end.is_some_and(|why| why.ends_with("(C-11, a short last piece)")));
         let list = with_run(|run| drop(call(run, packet(frame::init(LEFT, 0, 1_301, &[])))));
         assert_eq!((list.entries.len(), list.end), (2, None));
+    }
+
+    /// An init of 2,000 bytes, which has two slots.
+    fn init() -> Call {
+        packet(frame::init(LEFT, 0, 2_000, b"ducts"))
+    }
+
+    /// A piece of 250 bytes at an index.
+    fn chunk(index: u64) -> Call {
+        packet(frame::chunk(LEFT, 0, index, 0, 250, &[index as u8; 250]))
+    }
+
+    #[test]
+    fn an_id_leaves_at_an_equal_init_and_the_library_keeps_its_pieces() {
+        let list = with_run(|run| {
+            call(run, init());
+            call(run, init());
+            assert!(!run.left.has(&LEFT), "there is nothing to lose yet");
+            call(run, chunk(0));
+            call(run, chunk(2));
+            let calls = run.entries.len();
+            assert_eq!(call(run, init()).len(), 1, "the library's reply goes on the link");
+            assert!(run.left.has(&LEFT) && run.end == Some((calls, Listed::EqualInit)));
+            let message = &run.tally.arriving[&LEFT];
+            assert_eq!((message.pieces.len(), message.slots()), (2, 3));
+            // the original has two slots and no pieces: only the library makes it whole
+            call(run, packet(frame::chunk(LEFT, 0, 1, 0, 1_300, &[1; 1_300])));
+            call(run, packet(frame::chunk(LEFT, 0, 2, 0, 450, &[2; 450])));
+            let sum = blake3::hash(&[vec![0; 250], vec![1; 1_300], vec![2; 450]].concat());
+            let done = call(run, packet(frame::done(LEFT, 0, 3, sum.as_bytes())));
+            assert_eq!((done.len(), run.tally.whole.get(&LEFT)), (1, Some(&3)));
+            assert_eq!(read(&call(run, Call::Take)), [LEFT], "it is thrown away");
+        });
+        assert_eq!(list.entries.len(), 5);
+        assert!(list.end.is_some_and(|why| why.ends_with("(C-12, an equal init)")));
+    }
+
+    #[test]
+    fn it_stays_where_the_init_is_refused() {
+        with_run(|run| {
+            call(run, init());
+            call(run, chunk(0));
+            call(run, Call::Rules(vec![1]));
+            assert_eq!(call(run, init()), []);
+            assert_eq!(run.entries.last().map(|entry| entry.said.number), Some(CLOSED_TOPIC));
+            assert!(!run.left.has(&LEFT) && run.tally.arriving[&LEFT].pieces.len() == 1);
+        });
+    }
+
+    #[test]
+    fn it_stays_where_another_init_starts_the_message_again() {
+        let Call::Packet(first) = init() else { unreachable!() };
+        let change = |change: fn(&mut Packet)| {
+            let mut other = first.clone();
+            change(&mut other);
+            other
+        };
+        for other in [
+            change(|other| other.from[0] ^= 1),
+            change(|other| other.to[0] ^= 1),
+            change(|other| other.bytes[19] ^= 1),
+            change(|other| other.bytes[20] -= 1),
+            change(|other| other.bytes[8] ^= frame::REPLY),
+        ] {
+            with_run(|run| {
+                call(run, init());
+                call(run, chunk(0));
+                call(run, chunk(2));
+                assert_eq!(call(run, Call::Packet(other)).len(), 1);
+                assert!(!run.left.has(&LEFT) && run.tally.arriving[&LEFT].pieces.is_empty());
+                call(run, packet(frame::done(LEFT, 0, 2, &[0; 32])));
+                assert_eq!(run.entries.last().map(|entry| entry.said.number), Some(GAP));
+            });
+        }
+    }
+
+    /// Whether the original is found not to have lost what it had: pieces at these indexes of a message of this length.
+    fn found_to_keep(length: u64, indexes: &[u64], restarts: bool) -> bool {
+        let mut found = false;
+        with_run(|run| {
+            let init = packet(frame::init(LEFT, 0, length, &[]));
+            call(run, init.clone());
+            for index in indexes {
+                let size = length.min(250);
+                call(run, packet(frame::chunk(LEFT, 0, *index, 0, size, &[7; 250][..size as usize])));
+            }
+            if restarts {
+                original_alone(run, init.clone());
+            }
+            let Call::Packet(init) = init else { unreachable!() };
+            found = run.probe(Listed::EqualInit, &init).is_some();
+            // it holds what it held before, so that it is not found the next time either
+            assert!(found || run.probe(Listed::EqualInit, &init).is_none());
+        });
+        found
+    }
+
+    #[test]
+    fn an_original_that_kept_its_pieces_would_be_found() {
+        for (length, indexes) in [
+            (1, &[0][..]),
+            (1_300, &[0]),
+            (1_301, &[0]),
+            (5_000, &[0, 1, 2, 3]),
+            (5_000, &[3]),
+            (5_000, &[1, 12]),
+            (5_000, &[12]),
+            (0, &[0]),
+        ] {
+            assert!(found_to_keep(length, indexes, false), "{length} bytes, pieces {indexes:?}");
+            assert!(!found_to_keep(length, indexes, true), "{length} bytes, pieces {indexes:?}");
+        }
+        assert!(found_to_keep(5_000, &[], true), "there was nothing to lose");
     }
 
     /// A call that only the library gets.

@@ -4,5 +4,7 @@ pub mod Words
 pub mod Rounds
 pub mod Compression
 pub mod Tree
+pub mod SideBySide
+pub mod RoundLaws
 pub mod Split
 pub mod Laws

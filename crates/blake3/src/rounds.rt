@@ -3,6 +3,7 @@ ghost use mathlib.Core.Path.{_≡_};
 ghost use Prim.Native.Nat.{_<_};
 ghost use Rattle.blake3.specs.Words.{rotr};
 ghost use Rattle.blake3.specs.Rounds as spec;
+ghost use Rattle.blake3.specs.SideBySide as side;
 use std::num::wrapping_add_u32;
 
 // The starting words.
@@ -49,7 +50,7 @@ fn mix(v: [u32; 4], x: u32, y: u32) -> [u32; 4]
 
 // G on the columns of s.
 fn columns(s: [u32; 16], m: [u32; 16]) -> [u32; 16]
-    ensures { λ r. ⌜ r ≡ spec.columns s m ⌝ }
+    ensures { λ r. ⌜ r ≡ side.columns s m ⌝ }
 {
     let a = mix([s[0], s[4], s[8], s[12]], m[0], m[1]);
     let b = mix([s[1], s[5], s[9], s[13]], m[2], m[3]);
@@ -77,7 +78,7 @@ fn columns(s: [u32; 16], m: [u32; 16]) -> [u32; 16]
 
 // G on the diagonals of s.
 fn diagonals(s: [u32; 16], m: [u32; 16]) -> [u32; 16]
-    ensures { λ r. ⌜ r ≡ spec.diagonals s m ⌝ }
+    ensures { λ r. ⌜ r ≡ side.diagonals s m ⌝ }
 {
     let a = mix([s[0], s[5], s[10], s[15]], m[8], m[9]);
     let b = mix([s[1], s[6], s[11], s[12]], m[10], m[11]);

@@ -16,7 +16,7 @@ use Rattle.octets.specs.ListsLaws.{all-true, all-to, _&_}
 use Rattle.octets.specs.CompareLaws.{same-refl}
 use Rattle.octets.specs.NumbersLaws.{bytes-be}
 use Rattle.blake3.specs.Words.{add, rotr}
-use Rattle.blake3.specs.Rounds.{half, mix, upright, slanted, columns, diagonals, round, rounds}
+use Rattle.blake3.specs.Rounds.{half, mix, step, round, rounds}
 use Rattle.blake3.specs.Compression.{start, compress, chaining, rootBlock}
 use Rattle.blake3.specs.Tree.{wordAt, blockAt, flagsAt, before, lastNode, chunkNode, parentNode, level, node, bytes, blake3}
 use Rattle.blake3.specs.Laws.{blake3-below}
@@ -119,8 +119,8 @@ abbrev pub mixed : List (List ℕ)
 mixed = init 3 ∷ chunk 0 0 old ∷ another 3 ∷ done 1 new ∷ chunk 0 0 old ∷ done 1 new ∷ chunk 0 0 new ∷ done 1 new ∷ done 1 new ∷ []
 
 mixed-numbers : numbers (map heard mixed) (fresh roleReceive 2) sender ≡ 0 ∷ 0 ∷ 0 ∷ 14 ∷ 0 ∷ 16 ∷ 0 ∷ 0 ∷ 8 ∷ []
-unfolding numbers old new id frame topic init another chunk done address part be num same add rotr half mix upright slanted columns diagonals round
-    rounds start compress chaining rootBlock wordAt blockAt flagsAt before lastNode chunkNode parentNode level node bytes blake3 kindOf header chunkPacket
+unfolding numbers old new id frame topic init another chunk done address part be num same add rotr half mix step round rounds start
+    compress chaining rootBlock wordAt blockAt flagsAt before lastNode chunkNode parentNode level node bytes blake3 kindOf header chunkPacket
     donePacket sameKey equalInFive rise sizes find swap without refusal putPiece joined initAt chunkAt doneAt kindRow recvStep sendStep tooShort
 mixed-numbers = refl
 

@@ -11,7 +11,7 @@ use lib.ListN.{replicate}
 use Rattle.octets.specs.Octets.{part, be, num, same}
 use Rattle.octets.specs.CompareLaws.{same-refl}
 use Rattle.blake3.specs.Words.{add, rotr}
-use Rattle.blake3.specs.Rounds.{half, mix, upright, slanted, columns, diagonals, round, rounds}
+use Rattle.blake3.specs.Rounds.{half, mix, step, round, rounds}
 use Rattle.blake3.specs.Compression.{start, compress, chaining, rootBlock}
 use Rattle.blake3.specs.Tree.{wordAt, blockAt, flagsAt, before, lastNode, chunkNode, parentNode, level, node, bytes, blake3}
 use Rattle.packet.specs.Frame.{kindOf}
@@ -100,7 +100,7 @@ m9 = finished (8 ∷ 0 ∷ 0 ∷ 16 ∷ 0 ∷ 14 ∷ 0 ∷ 0 ∷ 0 ∷ []) (one 
 mixed-steps : (hear (chunk 0 0 old) (hear (init 3) opened) ≡ m2) × (hear (done 1 new) (hear (another 3) m2) ≡ m4)
     × (hear (done 1 new) (hear (chunk 0 0 old) m4) ≡ m6) × (hear (done 1 new) (hear (chunk 0 0 new) m6) ≡ m8) × (hear (done 1 new) m8 ≡ m9)
 unfolding old new one m2 m4 m6 m8 m9 id frame topic init another chunk done address hear opened surveyOf arriving finished part be num same add rotr half mix
-    upright slanted columns diagonals round rounds start compress chaining rootBlock wordAt blockAt flagsAt before lastNode chunkNode parentNode level
+    step round rounds start compress chaining rootBlock wordAt blockAt flagsAt before lastNode chunkNode parentNode level
     node bytes blake3 kindOf header chunkPacket donePacket sameKey equalInFive rise sizes find swap without refusal putPiece joined initAt chunkAt doneAt dropAt
     kindRow recvStep tooShort
 mixed-steps = (refl, refl, refl, refl, refl)
@@ -134,7 +134,7 @@ l8 = arriving (0 ∷ 0 ∷ 14 ∷ 13 ∷ 0 ∷ 0 ∷ 0 ∷ 0 ∷ []) (survey 260
 pub lossy-steps : (hear (init 260) (hear (init 260) opened) ≡ l2) × (hear (chunk 1 0 piece1) (hear (chunk 1 0 piece1) l2) ≡ l4)
     × (hear (done 2 (piece0 ++ piece1)) (hear (done 1 (piece0 ++ piece1)) l4) ≡ l6) × (hear (chunk 0 0 piece0) (hear (chunk 0 0 piece0) l6) ≡ l8)
 unfolding piece0 piece1 l2 l4 l6 l8 id frame init chunk done address hear opened survey surveyOf arriving finished part be num same add rotr half mix
-    upright slanted columns diagonals round rounds start compress chaining rootBlock wordAt blockAt flagsAt before lastNode chunkNode parentNode level
+    step round rounds start compress chaining rootBlock wordAt blockAt flagsAt before lastNode chunkNode parentNode level
     node bytes blake3 kindOf header chunkPacket donePacket sameKey equalInFive rise sizes find swap without refusal putPiece joined initAt chunkAt doneAt
     dropAt kindRow recvStep tooShort
 lossy-steps = (refl, refl, refl, refl)

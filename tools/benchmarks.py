@@ -230,9 +230,7 @@ the bar is about the quicker one.
 Stores are copied anew before each call, outside the measured time.
 Calls and scans are run by three processes, and the worst of them has to meet the bar.
 The times in nanoseconds are the first one's.
-A call can take half as long again in one process as in another.
-With empty stores it takes 2.0 or 2.6 µs by where the linker puts the code,
-and one program was seen to take 2.6 and 4.9 µs when it was run again.
+A call can take a third as long again in one process as in another.
 The clock adds {ns(figures.get("clock", "nothing", 0))} ns to every figure of this part.
 
 {theirs}

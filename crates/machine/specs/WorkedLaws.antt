@@ -69,7 +69,7 @@ old = 7 ∷ 8 ∷ 9 ∷ []
 unfoldable pub new : List ℕ
 new = 1 ∷ 2 ∷ 3 ∷ []
 
--- the record with its one piece, without a topic and with one
+-- the record with its one piece, about a topic
 unfoldable pub one : List ℕ → List ℕ → Rec
 one about bytes = surveyOf about 3 1 (newCell 1 0 bytes ∷ [])
 

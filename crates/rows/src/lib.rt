@@ -20,11 +20,27 @@ pub enum Holds {
     Piece,
 }
 
-// Whether a free row is zero but for its link.
+// From which byte on a cell's and a record's row is whole vectors of 16 bytes, and how many bytes these are.
+const CELL_VECTORS: usize = 4;
+
+const CELL_REST: usize = cell::BYTES - CELL_VECTORS;
+
+const RECORD_VECTORS: usize = 8;
+
+const RECORD_REST: usize = record::BYTES - RECORD_VECTORS;
+
+// Whether a free row is zero but for its link. Rows of cells and of records are tested in two parts of constant sizes,
+// so that the compiler knows how long its loops are.
 pub fn free(row: &[u8]) -> bool
     requires { ⌜ 1 ≤ length (now row) ⌝ }
     ensures { λ r. ⌜ r ≡ freeShape (length (now (row .entry))) (now (row .entry)) ⌝ }
 {
+    if row.len() == cell::BYTES {
+        return octets::zero_part(row, 1, 3) & octets::zero_part(row, CELL_VECTORS, CELL_REST);
+    }
+    if row.len() == record::BYTES {
+        return octets::zero_part(row, 1, 7) & octets::zero_part(row, RECORD_VECTORS, RECORD_REST);
+    }
     octets::zero_part(row, 1, row.len() - 1)
 }
 

@@ -68,10 +68,6 @@ const OTHER_INITS: [(&str, &str); 5] = [
     ("reply flag", "init behind a piece, another reply flag"),
 ];
 
-/// Of 100 ids, at most so many may leave the comparison of a full run: with more it compares too little.
-/// This is a little above what a full run has: 6.6.
-const MOST_LEFT: u64 = 7;
-
 impl Coverage {
     /// Takes over what another part of the run has met.
     pub fn join(&mut self, other: Coverage) {
@@ -200,11 +196,11 @@ impl Coverage {
         missing
     }
 
-    /// What a full run says if more ids left the comparison than may.
+    /// What a full run says if more ids left the comparison than may, for one of the differences.
     pub fn too_many_left(&self) -> Option<String> {
-        let left: u64 = self.left.values().sum();
-        (left * 100 > self.ids * MOST_LEFT)
-            .then(|| format!("{left} of {} ids left the comparison, more than {MOST_LEFT} in 100", self.ids))
+        let (why, left) = self.left.iter().find(|(why, left)| **left * 100 > self.ids * why.most_in_100())?;
+        let (name, most) = (why.name(), why.most_in_100());
+        Some(format!("{left} of {} ids left the comparison ({name}), more than {most} in 100", self.ids))
     }
 
     /// The counts as text, a line each.
@@ -258,10 +254,17 @@ mod tests {
     #[test]
     fn too_many_ids_that_leave_are_told() {
         assert_eq!(met(0, 0).too_many_left(), None);
-        assert_eq!(met(200, 2 * MOST_LEFT).too_many_left(), None);
-        let told = met(200, 2 * MOST_LEFT + 1).too_many_left().expect("one too many");
-        let (left, most) = (2 * MOST_LEFT + 1, MOST_LEFT);
-        assert_eq!(told, format!("{left} of 200 ids left the comparison, more than {most} in 100"));
+        let mut coverage = met(200, 0);
+        for why in Listed::ALL {
+            (0..2 * why.most_in_100()).for_each(|_| coverage.left(why));
+            assert_eq!(coverage.too_many_left(), None, "each has its own bound");
+        }
+        coverage.left(Listed::EqualInit);
+        let told = "7 of 200 ids left the comparison (C-12, an equal init), more than 3 in 100";
+        assert_eq!(coverage.too_many_left().as_deref(), Some(told));
+        coverage.left(Listed::ShortLastPiece);
+        let told = "11 of 200 ids left the comparison (C-11, a short last piece), more than 5 in 100";
+        assert_eq!(coverage.too_many_left().as_deref(), Some(told));
     }
 
     #[test]

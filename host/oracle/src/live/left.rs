@@ -34,6 +34,15 @@ impl Listed {
         }
     }
 
+    /// Of 100 ids, at most so many may leave the comparison of a full run for it: with more it compares too little.
+    /// This is a little above what a full run has: 4.3, 2.3.
+    pub fn most_in_100(self) -> u64 {
+        match self {
+            Self::ShortLastPiece => 5,
+            Self::EqualInit => 3,
+        }
+    }
+
     /// The difference that treats this packet otherwise than the original, which holds what the tally says;
     /// unless the original refuses it for what both have.
     pub fn of(packet: &Packet, tally: &Tally) -> Option<Self> {

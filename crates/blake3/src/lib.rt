@@ -1,9 +1,11 @@
 // BLAKE3, the plain sum: all of it, for an input of any length, with no heap.
-// `rounds` mixes words, `node` is the compression function, `tree` chunks and parents.
+// `rounds` mixes words, `node` is the compression function, `tree` chunks and parents, and `lanes` hashes four chunks at
+// once.
 ghost use mathlib.Core.Path.{_≡_};
 ghost use Prim.Native.Nat.{_*_, _/_, _%_, _^_, _<_};
 ghost use Rattle.blake3.specs.Tree.{bytes, blake3};
 
+mod lanes;
 mod node;
 mod rounds;
 mod tree;

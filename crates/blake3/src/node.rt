@@ -17,7 +17,7 @@ pub struct Node {
 const ROOT: u32 = 8;
 
 // The state before the first round.
-fn start(n: Node) -> [u32; 16]
+pub fn start(n: Node) -> [u32; 16]
     ensures { λ r. ⌜ r ≡ spec.start n ⌝ }
 {
     let h = n.input;
@@ -44,7 +44,7 @@ fn start(n: Node) -> [u32; 16]
 }
 
 // The output of the state v after the last round.
-fn finish(v: [u32; 16], h: [u32; 8]) -> [u32; 16]
+pub fn finish(v: [u32; 16], h: [u32; 8]) -> [u32; 16]
     ensures { λ r. ⌜ r ≡ spec.finish v h ⌝ }
 {
     [

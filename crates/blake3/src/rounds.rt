@@ -49,7 +49,7 @@ fn mix(v: [u32; 4], x: u32, y: u32) -> [u32; 4]
 }
 
 // G on the columns of s.
-fn columns(s: [u32; 16], m: [u32; 16]) -> [u32; 16]
+pub fn columns(s: [u32; 16], m: [u32; 16]) -> [u32; 16]
     ensures { λ r. ⌜ r ≡ side.columns s m ⌝ }
 {
     let a = mix([s[0], s[4], s[8], s[12]], m[0], m[1]);
@@ -77,7 +77,7 @@ fn columns(s: [u32; 16], m: [u32; 16]) -> [u32; 16]
 }
 
 // G on the diagonals of s.
-fn diagonals(s: [u32; 16], m: [u32; 16]) -> [u32; 16]
+pub fn diagonals(s: [u32; 16], m: [u32; 16]) -> [u32; 16]
     ensures { λ r. ⌜ r ≡ side.diagonals s m ⌝ }
 {
     let a = mix([s[0], s[5], s[10], s[15]], m[8], m[9]);
@@ -112,7 +112,7 @@ fn round(s: [u32; 16], m: [u32; 16]) -> [u32; 16]
 }
 
 // The message words of the next round.
-fn permute(m: [u32; 16]) -> [u32; 16]
+pub fn permute(m: [u32; 16]) -> [u32; 16]
     ensures { λ r. ⌜ r ≡ spec.permute m ⌝ }
 {
     let p = PLACES;
@@ -136,19 +136,21 @@ fn permute(m: [u32; 16]) -> [u32; 16]
     ]
 }
 
-// All seven rounds.
+// All seven rounds, written one after the other: a loop would keep the state in memory.
 pub fn rounds(s: [u32; 16], m: [u32; 16]) -> [u32; 16]
     ensures { λ r. ⌜ r ≡ spec.rounds 7 s m ⌝ }
 {
-    let mut v = s;
-    let mut w = m;
-    let mut i: usize = 0;
-    while i < 7 {
-        let a = round(v, w);
-        v = a;
-        let b = permute(w);
-        w = b;
-        i += 1;
-    }
-    v
+    let m1 = permute(m);
+    let m2 = permute(m1);
+    let m3 = permute(m2);
+    let m4 = permute(m3);
+    let m5 = permute(m4);
+    let m6 = permute(m5);
+    let s1 = round(s, m);
+    let s2 = round(s1, m1);
+    let s3 = round(s2, m2);
+    let s4 = round(s3, m3);
+    let s5 = round(s4, m4);
+    let s6 = round(s5, m5);
+    round(s6, m6)
 }

@@ -4,20 +4,30 @@ ghost use mathlib.Core.Path.{_≡_};
 ghost use Prim.Native.Nat.{_+_, _*_, _<_, _≤_, _^_};
 ghost use lib.ListN.{length};
 ghost use Rattle.blake3.specs.Words.{word};
-ghost use Rattle.blake3.specs.Tree.{chunkLen, wordAt, blockAt, chunkNode, parentNode, node};
+ghost use Rattle.blake3.specs.Tree.{blockLen, chunkLen, wordAt, blockAt, flagsAt, chunkNode, parentNode, node};
 ghost use Rattle.blake3.specs.Split.{Left};
+ghost use Rattle.blake3.specs.Lanes.{Each};
+ghost use Rattle.blake3.specs.FourChunks.{endNode, Four, valueAt};
+use super::lanes;
+use super::lanes::Chunks;
 use super::node::Node;
 use super::node::chaining;
 
-// The bytes of a block and of a chunk.
-const BLOCK: usize = 64;
+// The bytes of a block and of chunks.
+pub const BLOCK: usize = 64;
 
 const CHUNK: usize = 1024;
+
+const TWO_CHUNKS: usize = 2 * CHUNK;
+
+const THREE_CHUNKS: usize = 3 * CHUNK;
+
+const FOUR_CHUNKS: usize = 4 * CHUNK;
 
 // The flags of a chunk's first block, of its last block, and of a parent.
 const CHUNK_START: u32 = 1;
 
-const CHUNK_END: u32 = 2;
+pub const CHUNK_END: u32 = 2;
 
 const PARENT: u32 = 4;
 
@@ -65,7 +75,7 @@ fn word_at(s: &[u8], p: usize) -> u32
 }
 
 // The sixteen words of block i, which lies in s. With no test in it, the loop is compiled to four vector loads.
-fn whole_block(s: &[u8], i: usize) -> [u32; 16]
+pub fn whole_block(s: &[u8], i: usize) -> [u32; 16]
     requires { ⌜ 64 * i + 64 ≤ length (now s) ⌝ }
     ensures { λ r. ⌜ r ≡ blockAt (now (s .entry)) i ⌝ }
 {
@@ -95,13 +105,33 @@ fn block_at(s: &[u8], i: usize) -> [u32; 16]
     m
 }
 
+// The flags of block i of a chunk, but for the last block's.
+pub fn flags_at(mode: u32, i: usize) -> u32
+    ensures { λ r. ⌜ r ≡ flagsAt mode i ⌝ }
+{
+    if i == 0 { mode | CHUNK_START } else { mode }
+}
+
+// The node of block i, the last one of the chunk s, which is chunk t of the input, with h before it.
+fn last_node(mode: u32, s: &[u8], t: u64, i: usize, h: [u32; 8]) -> Node
+    requires { ⌜ (i ≤ 16) × (blockLen * i ≤ length (now s)) × (length (now s) ≤ chunkLen) ⌝ }
+    ensures { λ r. ⌜ r ≡ endNode mode (now (s .entry)) t i h ⌝ }
+{
+    Node {
+        input: h,
+        block: block_at(s, i),
+        counter: t,
+        size: (s.len() - BLOCK * i) as u32,
+        flags: flags_at(mode, i) | CHUNK_END,
+    }
+}
+
 // The node of the chunk s, which is chunk t of the input.
 fn chunk_node(key: [u32; 8], mode: u32, s: &[u8], t: u64) -> Node
     requires { ⌜ length (now s) ≤ chunkLen ⌝ }
     ensures { λ r. ⌜ r ≡ chunkNode key mode (now (s .entry)) t ⌝ }
 {
     let mut h = key;
-    let mut f = mode | CHUNK_START;
     let mut i: usize = 0;
     while BLOCK * i + BLOCK < s.len() {
         let g = chaining(Node {
@@ -109,19 +139,12 @@ fn chunk_node(key: [u32; 8], mode: u32, s: &[u8], t: u64) -> Node
             block: block_at(s, i),
             counter: t,
             size: BLOCK as u32,
-            flags: f,
+            flags: flags_at(mode, i),
         });
         h = g;
-        f = mode;
         i += 1;
     }
-    Node {
-        input: h,
-        block: block_at(s, i),
-        counter: t,
-        size: (s.len() - BLOCK * i) as u32,
-        flags: f | CHUNK_END,
-    }
+    last_node(mode, s, t, i, h)
 }
 
 // The parent of two nodes with the chaining values l and r.
@@ -154,6 +177,48 @@ fn parent_node(key: [u32; 8], mode: u32, l: [u32; 8], r: [u32; 8]) -> Node
     }
 }
 
+// The chaining values of the chunks of s, three whole ones and a last one, each in its lane.
+fn four(key: [u32; 8], mode: u32, s: &[u8], t: u64) -> [u32; 32]
+    requires { ⌜ Four (now s) t ⌝ }
+    ensures { λ r. ⌜ Each 8 r (λ j. valueAt key mode (now (s .entry)) t j) ⌝ }
+{
+    let n = s.len();
+    let c = Chunks {
+        at: [0, CHUNK, TWO_CHUNKS, THREE_CHUNKS],
+        first: t,
+        mode: mode,
+    };
+    let mut h = lanes::spread(key);
+    if n == FOUR_CHUNKS {
+        lanes::ends(s, c, 0, &mut h);
+        return h;
+    }
+    // all lanes as far as the last chunk goes, but for its last block; then three chunks to their ends, and lane 3 idles
+    let b = (n - THREE_CHUNKS - 1) / BLOCK;
+    lanes::blocks(s, c, 0, b, &mut h);
+    let w = lanes::lane8(&h, 3);
+    let d = Chunks {
+        at: [0, CHUNK, TWO_CHUNKS, TWO_CHUNKS],
+        first: t,
+        mode: mode,
+    };
+    lanes::ends(s, d, b, &mut h);
+    let last = chaining(last_node(mode, &s[THREE_CHUNKS..], t + 3, b, w));
+    lanes::set8(&mut h, 3, last);
+    h
+}
+
+// The node over s, which is three whole chunks and a last one.
+fn quad(key: [u32; 8], mode: u32, s: &[u8], t: u64) -> Node
+    requires { ⌜ Four (now s) t ⌝ }
+    ensures { λ r. ⌜ r ≡ node key mode (now (s .entry)) t ⌝ }
+{
+    let h = four(key, mode, s, t);
+    let l = chaining(parent_node(key, mode, lanes::lane8(&h, 0), lanes::lane8(&h, 1)));
+    let r = chaining(parent_node(key, mode, lanes::lane8(&h, 2), lanes::lane8(&h, 3)));
+    parent_node(key, mode, l, r)
+}
+
 // The bytes of the left part of n bytes: the largest power of two of chunks below n.
 fn left(n: usize) -> usize
     requires { ⌜ chunkLen < n ⌝ }
@@ -174,6 +239,10 @@ pub fn subtree(key: [u32; 8], mode: u32, s: &[u8], t: u64) -> Node
     let n = s.len();
     if n <= CHUNK {
         return chunk_node(key, mode, s, t);
+    }
+    // three whole chunks and a last one
+    if (n - 1) / CHUNK == 3 {
+        return quad(key, mode, s, t);
     }
     let p = left(n);
     let l = chaining(subtree(key, mode, &s[..p], t));

@@ -51,7 +51,7 @@ module _ (key : List ℕ) (mode : ℕ) where
       let e0 : take chunkLen (take half s) ≡ take chunkLen s = take-take chunkLen half s (omega arith) in
       let e1 : drop chunkLen (take half s) ≡ take chunkLen (drop chunkLen s) = drop-take chunkLen chunkLen s (omega arith) in
       let e3 : drop chunkLen (drop half s) ≡ take chunkLen (drop (3 * chunkLen) s) =
-          drop-drop chunkLen half s ∙ sym (take-all chunkLen (drop (3 * chunkLen) s) (omega (arith, length-drop (3 * chunkLen) s))) in
+      drop-drop chunkLen half s ∙ sym (take-all chunkLen (drop (3 * chunkLen) s) (omega (arith, length-drop (3 * chunkLen) s))) in
       let q3 : t + 2 + 1 ≡ t + 3 = omega arith in
       let q0 : t ≡ t + 0 = omega arith in
       node-parent key mode s t half l
@@ -85,7 +85,7 @@ module _ (key : List ℕ) (mode : ℕ) (x : List ℕ) (t : ℕ) where
         block = block-take x i (omega arith) z;
         counter = t;
         size = blockLen;
-        flags = flagsAt mode i
+        flags = flagsAt mode i;
       })
 
   -- a whole chunk, from the value before its last block
@@ -101,7 +101,7 @@ module _ (key : List ℕ) (mode : ℕ) (x : List ℕ) (t : ℕ) where
         block = sym (block-take x 15 (omega arith)) z;
         counter = t;
         size = r z;
-        flags = bitOr mode chunkEnd
+        flags = bitOr mode chunkEnd;
       }))
       ∙ ap (λ (i : ℕ). chaining (lastNode key mode (take chunkLen x) t i)) (sym q)
 

@@ -1,4 +1,4 @@
--- Laws of lanes: what is put into one is there, and the others stay; so a loop over the lanes that puts one after the other leaves all of them. Assumes nothing.
+-- Laws of lanes: what is put into one is there, and the others stay; so a loop that puts one lane after the other leaves all of them. Assumes nothing.
 use mathlib.Core.Path.{_≡_, refl, sym, ap, _∙_, subst}
 use mathlib.Core.Logic.{⊎-elim}
 use mathlib.Core.List.{List, _∷_}

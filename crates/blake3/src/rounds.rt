@@ -104,13 +104,6 @@ pub fn diagonals(s: [u32; 16], m: [u32; 16]) -> [u32; 16]
     ]
 }
 
-// One round.
-fn round(s: [u32; 16], m: [u32; 16]) -> [u32; 16]
-    ensures { λ r. ⌜ r ≡ spec.round s m ⌝ }
-{
-    diagonals(columns(s, m), m)
-}
-
 // The message words of the next round.
 pub fn permute(m: [u32; 16]) -> [u32; 16]
     ensures { λ r. ⌜ r ≡ spec.permute m ⌝ }
@@ -146,11 +139,11 @@ pub fn rounds(s: [u32; 16], m: [u32; 16]) -> [u32; 16]
     let m4 = permute(m3);
     let m5 = permute(m4);
     let m6 = permute(m5);
-    let s1 = round(s, m);
-    let s2 = round(s1, m1);
-    let s3 = round(s2, m2);
-    let s4 = round(s3, m3);
-    let s5 = round(s4, m4);
-    let s6 = round(s5, m5);
-    round(s6, m6)
+    let s1 = diagonals(columns(s, m), m);
+    let s2 = diagonals(columns(s1, m1), m1);
+    let s3 = diagonals(columns(s2, m2), m2);
+    let s4 = diagonals(columns(s3, m3), m3);
+    let s5 = diagonals(columns(s4, m4), m4);
+    let s6 = diagonals(columns(s5, m5), m5);
+    diagonals(columns(s6, m6), m6)
 }

@@ -70,12 +70,14 @@ pub fn marked(
         }
         let off = start + size * (x - 1);
         let row = &s[off..off + size];
+        // before the row is tested, so that the next one is fetched meanwhile
+        let next = octets::small(row[0]);
         let fine = rows::fits(row, role, holds);
         if !fine {
             return false;
         }
         marks[x] = 1;
-        x = octets::small(row[0]);
+        x = next;
         n += 1;
     }
     true

@@ -1,12 +1,13 @@
 -- `blake3::lanes::begin` meets its contract: the lanes below j have begun. Assumes nothing.
 use borrow.Author.Needs.{needs}
-use mathlib.Core.Path.{_≡_, refl, sym, ap, _∙_}
+use mathlib.Core.Path.{_≡_, refl, ap, _∙_}
 use mathlib.Core.List.{List}
 use Prim.Native.Nat.{ℕ, _+_, _-_, _≤_, _<_}
 use native.Mathlib.Omega.{arith}
-use lib.ListN.{length}
+use lib.ListN.{length, drop}
 use Rattle.blake3.specs.Words.{word}
 use Rattle.blake3.specs.Compression.{start}
+use Rattle.blake3.specs.Tree.{blockAt}
 use Rattle.blake3.specs.Lanes.{lane}
 use Rattle.blake3.specs.FourChunks.{blockNode, laneNode}
 use Rattle.blake3.specs.declared.node.Node.{Node}
@@ -23,6 +24,10 @@ Inv-loop s c i f h v₀ m₀ at j₀ v m j =
 abbrev μ-loop : tie.MeasureT-loop
 μ-loop s c i f h v₀ m₀ at j₀ v m j = 4 - j
 
+length-block : (s : List ℕ) (i : ℕ) → length (blockAt s i) ≡ 16
+unfolding blockAt
+length-block s i = refl
+
 loop-holds : tie.Need-loop-holds Inv-loop μ-loop
 loop-holds c = (search needs, none 16 _ _ (c .before .before .pre .1), none 16 _ _ (c .before .before .pre .2))
 
@@ -31,16 +36,20 @@ node-at-requires c κs = c .before .before .before .before .before .before .pre 
 
 loop-again : tie.Need-loop-again Inv-loop μ-loop
 loop-again c =
-    let l = c .before .before .before .before .before .before .before .before .before .before .loop in
-    let g = c .before .before .before .before .before .before .before .before .before .before .before .before .before .args in
+    let put = c .before .before in
+    let node = put .before .before .before .before in
+    let l = node .before .before .before .before .loop in
+    let g = node .before .before .before .before .before .before .before .args in
     let h : l .j < 4 = omega arith in
-    let u = l .inv .1 in
-    let z = l .inv .2 in
-    let old = laneNode (g .s .now) (g .c) (g .i) (g .f) (g .h .now) in
-    let e = c .before .before .before .before .before .before .node-at .ensures ∙ ap (blockNode (g .s .now) (word (g .c .at) (l .j)) (g .i) (g .c .first + l .j) (g .f)) (c .before .before .before .before .before .before .before .lane8 .ensures) in (
+    let s = g .s .now in
+    let new = laneNode s (g .c) (g .i) (g .f) (g .h .now) in
+    let e = node .node-at .ensures ∙ ap (blockNode s (word (g .c .at) (l .j)) (g .i) (g .c .first + l .j) (g .f)) (node .before .lane8 .ensures) in
+    let words = ap (λ (n : Node). n .block) e in (
       search needs,
-      more 16 (λ k. start (old k)) (λ k. lane 16 k (g .v .now)) (l .v) _ (l .j) h (search needs) (c .before .before .before .start .ensures ∙ ap start e) u _ (c .before .before .set16 .ensures),
-      more 16 (λ k. old k .block) (λ k. lane 16 k (g .m .now)) (l .m) _ (l .j) h (search needs) (ap (λ (n : Node). n .block) e) z _ (c .set162 .ensures),
+      more 16 (λ k. start (new k)) (λ k. lane 16 k (g .v .now)) (l .v) _ (l .j) h (search needs)
+          (put .before .start .ensures ∙ ap start e) (l .inv .1) _ (put .set16 .ensures),
+      more 16 (λ k. new k .block) (λ k. lane 16 k (g .m .now)) (l .m) _ (l .j) h (ap length words ∙ length-block (drop (word (g .c .at) (l .j)) s) (g .i))
+          words (l .inv .2) _ (c .set162 .ensures),
     )
 
 returns : tie.Need-returns Inv-loop μ-loop
@@ -51,4 +60,5 @@ returns c =
 pub begin-spec : {M : Type 1} → statement M
 begin-spec =
     tie.close
-    (tie.spec Inv-loop μ-loop loop-holds (λ c. search needs) (λ c. search needs) (λ c. search needs) (λ c κs. search needs) node-at-requires (λ c κs. search needs) (λ c κs. search needs) (λ c κs. search needs) (λ c. search needs) (λ c. search needs) loop-again returns)
+    (tie.spec Inv-loop μ-loop loop-holds (λ c. search needs) (λ c. search needs) (λ c. search needs) (λ c κs. search needs) node-at-requires
+    (λ c κs. search needs) (λ c κs. search needs) (λ c κs. search needs) (λ c. search needs) (λ c. search needs) loop-again returns)

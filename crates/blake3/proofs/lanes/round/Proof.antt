@@ -24,18 +24,23 @@ loop-holds c =
 
 loop-again : tie.Need-loop-again Inv-loop μ-loop
 loop-again c =
-    let l = c .before .before .before .before .before .before .before .before .before .before .before .before .loop in
-    let g = c .before .before .before .before .before .before .before .before .before .before .before .before .before .args in
+    let permuted = c .before .before in
+    let put = permuted .before in
+    let mixed = put .before .before in
+    let read = mixed .before .before in
+    let l = read .before .before .before .before .before .loop in
+    let g = read .before .before .before .before .before .before .args in
     let h : l .j < 4 = omega arith in
     let u = l .inv .1 in
     let z = l .inv .2 in
-    let ea = c .before .before .before .before .before .before .before .before .before .lane16 .ensures ∙ z .2 (l .j) (omega arith) h in
-    let eb = c .before .before .before .before .before .before .before .lane162 .ensures ∙ u .2 (l .j) (omega arith) h in (
+    let ea = read .before .before .lane16 .ensures ∙ z .2 (l .j) (omega arith) h in
+    let eb = read .lane162 .ensures ∙ u .2 (l .j) (omega arith) h in
+    let old : ℕ → List ℕ = λ i. lane 16 i (g .v .now) in
+    let words : ℕ → List ℕ = λ i. lane 16 i (g .m .now) in
+    let e = rounded (old (l .j)) (words (l .j)) ea eb (mixed .before .columns .ensures) (mixed .diagonals .ensures) in (
       search needs,
-      more 16 (λ i. round (lane 16 i (g .v .now)) (lane 16 i (g .m .now))) (λ i. lane 16 i (g .v .now)) (l .v) _ (l .j) h (search needs)
-          (rounded (lane 16 (l .j) (g .v .now)) (lane 16 (l .j) (g .m .now)) ea eb (c .before .before .before .before .before .before .columns .ensures) (c .before .before .before .before .before .diagonals .ensures)) u _ (c .before .before .before .set16 .ensures),
-      more 16 (λ i. permute (lane 16 i (g .m .now))) (λ i. lane 16 i (g .m .now)) (l .m) _ (l .j) h (search needs)
-          (c .before .before .permute .ensures ∙ ap permute ea) z _ (c .set162 .ensures),
+      more 16 (λ i. round (old i) (words i)) old (l .v) _ (l .j) h (search needs) e u _ (put .set16 .ensures),
+      more 16 (λ i. permute (words i)) words (l .m) _ (l .j) h (search needs) (permuted .permute .ensures ∙ ap permute ea) z _ (c .set162 .ensures),
     )
 
 returns : tie.Need-returns Inv-loop μ-loop
@@ -46,4 +51,5 @@ returns c =
 pub round-spec : {M : Type 1} → statement M
 round-spec =
     tie.close
-    (tie.spec Inv-loop μ-loop loop-holds (λ c κs. search needs) (λ c κs. search needs) (λ c κs. search needs) (λ c κs. search needs) (λ c κs. search needs) (λ c κs. search needs) (λ c κs. search needs) (λ c. search needs) (λ c. search needs) loop-again returns)
+    (tie.spec Inv-loop μ-loop loop-holds (λ c κs. search needs) (λ c κs. search needs) (λ c κs. search needs) (λ c κs. search needs)
+    (λ c κs. search needs) (λ c κs. search needs) (λ c κs. search needs) (λ c. search needs) (λ c. search needs) loop-again returns)

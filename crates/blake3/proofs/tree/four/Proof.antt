@@ -16,11 +16,18 @@ use Rattle.blake3.proofs.FourLaws.{short, among, back-is, back-length}
 use Rattle.blake3.proofs.tree.four.Statement.{statement}
 use Rattle.blake3.proofs.tree.four.Tie as tie
 
--- where the lanes start
-abbrev starts : ℕ → List ℕ
-starts r = 0 ∷ chunkLen ∷ 2 * chunkLen ∷ r ∷ []
+-- where the chunks 2 and 3 start
+abbrev second : ℕ
+second = 2 * chunkLen
 
-inside : (r n m : ℕ) → 2 * chunkLen + m ≤ n → r + m ≤ n → (j : ℕ) → j < 4 → word (starts r) j + m ≤ n
+abbrev third : ℕ
+third = 3 * chunkLen
+
+-- where the lanes start, lane 3 at r
+abbrev starts : ℕ → List ℕ
+starts r = 0 ∷ chunkLen ∷ second ∷ r ∷ []
+
+inside : (r n m : ℕ) → second + m ≤ n → r + m ≤ n → (j : ℕ) → j < 4 → word (starts r) j + m ≤ n
 inside r n m p q = among (λ j. word (starts r) j + m ≤ n) (omega arith) (omega arith) (omega arith) (omega arith)
 
 -- before the first block there is the key
@@ -34,33 +41,39 @@ length-chaining n = refl
 
 ends-requires : tie.Need-ends-requires
 ends-requires c κs =
-    let g = c .before .before .before .before in
-    (search needs, (inside (3 * chunkLen) (length (g .args .s .now)) chunkLen (omega arith) (omega arith), g .pre .2), c .before .before .spread .ensures .0)
+    let spread = c .before .before in
+    let g = spread .before .before in
+    (search needs, (inside third (length (g .args .s .now)) chunkLen (omega arith) (omega arith), g .pre .2), spread .spread .ensures .0)
 
 returns : tie.Need-returns
 returns c =
-    let g = c .before .before .before .before .before .args in
+    let spread = c .before .before .before in
+    let g = spread .before .before .args in
     let s = g .s .now in
     let e = c .ends .ensures in
     let value : (j : ℕ) → j < 4 → lane 8 j _ ≡ _ =
-        λ j h. e .1 j h (g .key) (begun (g .key) (g .mode) (drop (word (starts (3 * chunkLen)) j) s) (g .t + j) (c .before .before .before .spread .ensures .1 j h)) in
-    (e .0, among (λ j. lane 8 j (c .ends .last .1 .1 .1 .0) ≡ valueAt (g .key) (g .mode) s (g .t) j) (value 0 (omega arith)) (value 1 (omega arith)) (value 2 (omega arith)) (value 3 (omega arith)))
+    λ j h. e .1 j h (g .key) (begun (g .key) (g .mode) (drop (word (starts third) j) s) (g .t + j) (spread .spread .ensures .1 j h)) in (
+      e .0,
+      among (λ j. lane 8 j (c .ends .last .1 .1 .1 .0) ≡ valueAt (g .key) (g .mode) s (g .t) j)
+          (value 0 (omega arith)) (value 1 (omega arith)) (value 2 (omega arith)) (value 3 (omega arith)),
+    )
 
 blocks-requires : tie.Need-blocks-requires
 blocks-requires c κs =
-    let g = c .before .before .before .before in
+    let spread = c .before .before in
+    let g = spread .before .before in
     let n = length (g .args .s .now) in
-    (search needs, (inside (3 * chunkLen) n (blockLen * ((n - 3 * chunkLen - 1) / blockLen)) (omega arith) (omega arith), g .pre .2), c .before .before .spread .ensures .0)
+    (search needs, (inside third n (blockLen * ((n - third - 1) / blockLen)) (omega arith) (omega arith), g .pre .2), spread .spread .ensures .0)
 
 ends-requires-2 : tie.Need-ends-requires-2
 ends-requires-2 c κs =
-    let g = c .before .before .before .before .before .before .before .before in
-    (omega arith, (inside (2 * chunkLen) (length (g .args .s .now)) chunkLen (omega arith) (omega arith), g .pre .2), c .before .before .before .blocks2 .ensures .0)
+    let carried = c .before .before .before in
+    let g = carried .before .before .before .before .before in
+    (omega arith, (inside second (length (g .args .s .now)) chunkLen (omega arith) (omega arith), g .pre .2), carried .blocks2 .ensures .0)
 
 last-node-requires : tie.Need-last-node-requires
 last-node-requires c κs =
-    let s = c .before .before .before .before .before .before .before .before .before .before .args .s .now in
-    let e = back-length s (3 * chunkLen) in
+    let e = back-length (c .before .before .before .before .before .before .before .before .before .before .args .s .now) third in
     (omega arith, omega (arith, e), omega (arith, e))
 
 returns-2 : tie.Need-returns-2
@@ -72,26 +85,30 @@ returns-2 c =
     let s = g .s .now in
     let t = g .t in
     let r = c .set8 .last .0 in
-    let i = (length s - 3 * chunkLen - 1) / blockLen in
-    let so-far : (j : ℕ) (h : j < 4) → lane 8 j _ ≡ before (g .key) (g .mode) (drop (word (starts (3 * chunkLen)) j) s) (t + j) i =
-        λ j h. carried .blocks2 .ensures .1 j h (g .key) (begun (g .key) (g .mode) (drop (word (starts (3 * chunkLen)) j) s) (t + j) (spread .spread .ensures .1 j h)) in
-    let value : (j : ℕ) → j < 3 → word (starts (3 * chunkLen)) j ≡ word (starts (2 * chunkLen)) j → lane 8 j r ≡ _ =
-        λ j h e. let k : j < 4 = omega arith in
-        ap (lane 8 j) (c .set8 .ensures) ∙ lane-other 3 _ _ 8 j k (omega arith) (λ z. omega arith)
-        ∙ ended .ends2 .ensures .1 j k (g .key) (so-far j k ∙ ap (λ (a : ℕ). before (g .key) (g .mode) (drop a s) (t + j) i) e) in
+    let i = (length s - third - 1) / blockLen in
+    let at : ℕ → ℕ → List ℕ = λ a j. before (g .key) (g .mode) (drop a s) (t + j) i in
+    let so-far : (j : ℕ) (h : j < 4) → lane 8 j _ ≡ at (word (starts third) j) j =
+    λ j h. carried .blocks2 .ensures .1 j h (g .key)
+    (begun (g .key) (g .mode) (drop (word (starts third) j) s) (t + j) (spread .spread .ensures .1 j h)) in
+    let value : (j : ℕ) → j < 3 → word (starts third) j ≡ word (starts second) j → lane 8 j r ≡ _ =
+    λ j h e. let k : j < 4 = omega arith in
+    ap (lane 8 j) (c .set8 .ensures) ∙ lane-other 3 _ _ 8 j k (omega arith) (λ z. omega arith)
+    ∙ ended .ends2 .ensures .1 j k (g .key) (so-far j k ∙ ap (λ (a : ℕ). at a j) e) in
     let chained = c .before .before .chaining .ensures in
-    let rest = drop (3 * chunkLen) s in
-    let n = length-drop (3 * chunkLen) s in
+    let node = c .before .before .before .last-node .ensures in
+    let n = length-drop third s in
     let last : lane 8 3 r ≡ valueAt (g .key) (g .mode) s t 3 =
-        ap (lane 8 3) (c .set8 .ensures) ∙ lane-same 3 _ _ 8 (omega arith) (ended .ends2 .ensures .0) (ap length chained ∙ length-chaining _) ∙ chained
-        ∙ ap chaining (c .before .before .before .last-node .ensures ∙ (λ z. endNode (g .mode) (back-is s (3 * chunkLen) z) (t + 3) i (ended .before .before .lane8 .ensures z)))
-        ∙ short (g .key) (g .mode) rest (t + 3) (omega (arith, n)) i (omega (arith, n)) (omega (arith, n)) (so-far 3 (omega arith)) in (
+    ap (lane 8 3) (c .set8 .ensures) ∙ lane-same 3 _ _ 8 (omega arith) (ended .ends2 .ensures .0) (ap length chained ∙ length-chaining _)
+    ∙ chained ∙ ap chaining (node ∙ (λ z. endNode (g .mode) (back-is s third z) (t + 3) i (ended .before .before .lane8 .ensures z)))
+    ∙ short (g .key) (g .mode) (drop third s) (t + 3) (omega (arith, n)) i (omega (arith, n)) (omega (arith, n)) (so-far 3 (omega arith)) in (
       ap length (c .set8 .ensures) ∙ lanes-put 3 _ _ 8 (ended .ends2 .ensures .0),
-      among (λ j. lane 8 j r ≡ valueAt (g .key) (g .mode) s t j) (value 0 (omega arith) refl) (value 1 (omega arith) refl) (value 2 (omega arith) refl) last,
+      among (λ j. lane 8 j r ≡ valueAt (g .key) (g .mode) s t j)
+          (value 0 (omega arith) refl) (value 1 (omega arith) refl) (value 2 (omega arith) refl) last,
     )
 
 pub four-spec : {M : Type 1} → statement M
 four-spec =
     tie.close
-    (tie.spec (λ c κs. search needs) ends-requires returns (λ c. search needs) (λ c. search needs) blocks-requires (λ c κs. search needs) ends-requires-2
+    (tie.spec (λ c κs. search needs) ends-requires returns (λ c. search needs) (λ c. search needs) blocks-requires (λ c κs. search needs)
+    ends-requires-2
     (λ c. search needs) (λ c. search needs) (λ c. search needs) (λ c. search needs) last-node-requires (λ c κs. search needs) (λ c κs. search needs) returns-2)

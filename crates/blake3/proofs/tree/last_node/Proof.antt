@@ -1,6 +1,5 @@
--- `blake3::tree::last_node` meets its contract. Assumes nothing.
+-- `blake3::tree::last_node` meets its contract: its block and its flags are the last one's. Assumes nothing.
 use borrow.Author.Needs.{needs}
-use mathlib.Core.Path.{_≡_, refl, sym, ap, _∙_}
 use Prim.Native.Nat.{_-_, _*_}
 use lib.ListN.{length}
 use lib.Bits.{bitOr}
@@ -12,7 +11,13 @@ use Rattle.blake3.proofs.tree.last_node.Tie as tie
 returns : tie.Need-returns
 returns c =
     let g = c .before .before .before .args in
-    λ z. record { input = g .h; block = c .before .block-at .ensures z; counter = g .t; size = length (g .s .now) - blockLen * g .i; flags = bitOr (c .flags-at .ensures z) chunkEnd }
+    λ z. record {
+      input = g .h;
+      block = c .before .block-at .ensures z;
+      counter = g .t;
+      size = length (g .s .now) - blockLen * g .i;
+      flags = bitOr (c .flags-at .ensures z) chunkEnd;
+    }
 
 pub last-node-spec : {M : Type 1} → statement M
 last-node-spec = tie.close (tie.spec (λ c κs. search needs) (λ c. search needs) (λ c. search needs) (λ c. search needs) (λ c κs. search needs) returns)

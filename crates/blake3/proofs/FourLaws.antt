@@ -11,7 +11,7 @@ use Rattle.blake3.specs.Compression.{chaining}
 use Rattle.blake3.specs.Tree.{blockLen, chunkLen, chunkEnd, wordAt, blockAt, flagsAt, before, lastNode, chunkNode, parentNode, node}
 use Rattle.blake3.specs.Split.{Left}
 use Rattle.blake3.specs.Laws.{node-chunk, node-parent}
-use Rattle.blake3.specs.FourChunks.{blockNode, endNode, valueAt}
+use Rattle.blake3.specs.FourChunks.{lastBlock, blockNode, endNode, valueAt}
 use Rattle.blake3.specs.declared.node.Node.{Node}
 use Rattle.blake3.proofs.Laws.{ended}
 use Rattle.blake3.proofs.LaneLaws.{ext}
@@ -40,9 +40,9 @@ module _ (key : List ℕ) (mode : ℕ) where
       (chaining (node-chunk key mode (drop chunkLen s) (t + 1) (omega (arith, length-drop chunkLen s)) i)))
 
   -- three whole chunks and a last one
-  pub quad-is : (s : List ℕ) (t : ℕ) → 3 * chunkLen < length s → length s ≤ 4 * chunkLen → let v = valueAt key mode s t in
+  pub four-is : (s : List ℕ) (t : ℕ) → 3 * chunkLen < length s → length s ≤ 4 * chunkLen → let v = valueAt key mode s t in
       node key mode s t ≡ parentNode key mode (chaining (parentNode key mode (v 0) (v 1))) (chaining (parentNode key mode (v 2) (v 3)))
-  quad-is s t lo hi =
+  four-is s t lo hi =
       let half = 2 * chunkLen in
       let l : Left (length s) half = record { height = 1; chunks = refl; below = omega arith; most = omega arith } in
       let a = length-take-le half s (omega arith) in
@@ -89,16 +89,16 @@ module _ (key : List ℕ) (mode : ℕ) (x : List ℕ) (t : ℕ) where
       })
 
   -- a whole chunk, from the value before its last block
-  pub whole : chunkLen ≤ length x → {h : List ℕ} → h ≡ before key mode x t 15
-      → chaining (blockNode x 0 15 t (bitOr mode chunkEnd) h) ≡ chaining (chunkNode key mode (take chunkLen x) t)
+  pub whole : chunkLen ≤ length x → {h : List ℕ} → h ≡ before key mode x t lastBlock
+      → chaining (blockNode x 0 lastBlock t (bitOr mode chunkEnd) h) ≡ chaining (chunkNode key mode (take chunkLen x) t)
   unfolding chunkNode lastNode flagsAt
   whole l e =
       let n = length-take-le chunkLen x l in
-      let q : (length (take chunkLen x) - 1) / blockLen ≡ 15 = omega (arith, n) in
-      let r : blockLen ≡ length (take chunkLen x) - blockLen * 15 = omega (arith, n) in
+      let q : (length (take chunkLen x) - 1) / blockLen ≡ lastBlock = omega (arith, n) in
+      let r : blockLen ≡ length (take chunkLen x) - blockLen * lastBlock = omega (arith, n) in
       (λ z. chaining (record {
-        input = (e ∙ sym (before-take 15 (omega arith))) z;
-        block = sym (block-take x 15 (omega arith)) z;
+        input = (e ∙ sym (before-take lastBlock (omega arith))) z;
+        block = sym (block-take x lastBlock (omega arith)) z;
         counter = t;
         size = r z;
         flags = bitOr mode chunkEnd;

@@ -3,6 +3,7 @@ use mathlib.Core.Path.{_≡_, refl, sym, ap, _∙_, subst}
 use mathlib.Core.Logic.{⊎-elim}
 use mathlib.Core.List.{List, _∷_}
 use Prim.Native.Nat.{ℕ, zero, suc, _+_, _*_, _<_, _≤_}
+use native.Mathlib.Numerals.{add-one}
 use native.Mathlib.Omega.{arith}
 use native.Mathlib.Nat.{eq-or-lt-of-le, le-of-suc-le-suc, not-suc-le-zero}
 use lib.ListN.{length, set, length-set}
@@ -18,6 +19,11 @@ ext-from f g i (suc n) h = λ t. h i (omega arith) t ∷ ext-from f g (suc i) n 
 
 pub ext : (f g : ℕ → ℕ) (n : ℕ) → ((k : ℕ) → k < n → f k ≡ g k) → table f 0 n ≡ table g 0 n
 ext f g n h = ext-from f g 0 n (λ k q. h k (omega arith))
+
+-- one more word put
+pub put-next : (v v₀ w : List ℕ) (j k : ℕ) → v ≡ putLane k j w v₀ → set v (4 * k + j) (word w k) ≡ putLane (k + 1) j w v₀
+unfolding putLane
+put-next v v₀ w j k e = ap (λ (x : List ℕ). set x (4 * k + j) (word w k)) e ∙ ap (λ (n : ℕ). putLane n j w v₀) (sym (add-one k))
 
 module _ (j : ℕ) (w v : List ℕ) where
   length-put : (n : ℕ) → length (putLane n j w v) ≡ length v

@@ -1,4 +1,4 @@
--- Four chunks of an input s in four lanes, block by block: where they start, the counter of the first and the mode are a `Chunks`. Assumes nothing.
+-- Four chunks of an input in four lanes, block by block. A `Chunks` says where they start, and has the counter of the first and the mode. Assumes nothing.
 use Prim.Native.Nat.{ℕ, _+_, _-_, _*_, _^_, _<_, _≤_}
 use mathlib.Core.Path.{_≡_}
 use mathlib.Core.List.{List}
@@ -10,6 +10,10 @@ use Rattle.blake3.specs.Tree.{blockLen, chunkLen, chunkEnd, blockAt, fla
 use Rattle.blake3.specs.Lanes.{lane, Lanes, Each}
 use Rattle.blake3.specs.declared.node.Node.{Node}
 use Rattle.blake3.specs.declared.lanes.Chunks.{Chunks}
+
+-- the last block of a whole chunk
+abbrev pub lastBlock : ℕ
+lastBlock = 15
 
 -- the node of block i, which is whole, of the chunk at a, which is chunk t of the input, with h before it and the flags f
 abbrev pub blockNode : List ℕ → ℕ → ℕ → ℕ → ℕ → List ℕ → Node
@@ -41,17 +45,20 @@ module _ (s : List ℕ) (c : Chunks) where
   abbrev pub Stepped : ℕ → ℕ → List ℕ → List ℕ → Type 0
   Stepped i f h h′ = Each 8 h′ (λ j. chaining (laneNode i f h j))
 
+  -- the chaining value before block i of the chunk of lane j
+  abbrev pub valueBefore : List ℕ → ℕ → ℕ → List ℕ
+  valueBefore key i j = before key (c .mode) (from j) (c .first + j) i
+
   -- a lane that has its chunk's value before block a in h has, in h′, its chunk's value before block e
   abbrev pub Carried : ℕ → ℕ → List ℕ → List ℕ → Type 0
   Carried a e h h′ =
-      Lanes 8 h′
-      × ((j : ℕ) → j < 4 → (key : List ℕ) → lane 8 j h ≡ before key (c .mode) (from j) (c .first + j) a → lane 8 j h′ ≡ before key (c .mode) (from j) (c .first + j) e)
+      Lanes 8 h′ × ((j : ℕ) → j < 4 → (key : List ℕ) → lane 8 j h ≡ valueBefore key a j → lane 8 j h′ ≡ valueBefore key e j)
 
   -- .. or, where the chunk is whole, the chaining value of all of it
   abbrev pub Ended : ℕ → List ℕ → List ℕ → Type 0
   Ended a h h′ =
       Lanes 8 h′
-      × ((j : ℕ) → j < 4 → (key : List ℕ) → lane 8 j h ≡ before key (c .mode) (from j) (c .first + j) a
+      × ((j : ℕ) → j < 4 → (key : List ℕ) → lane 8 j h ≡ valueBefore key a j
       → lane 8 j h′ ≡ chaining (chunkNode key (c .mode) (take chunkLen (from j)) (c .first + j)))
 
 -- s is three whole chunks and a last one, the first of which is chunk t of the input

@@ -5,7 +5,7 @@ ghost use Prim.Native.Nat.{_+_, _*_, _<_, _≤_};
 ghost use lib.ListN.{length};
 ghost use Rattle.blake3.specs.Tree.{blockLen, chunkLen};
 ghost use Rattle.blake3.specs.Lanes.{Lanes, Each, lane, putLane, Rounded, AllRounds, Finished};
-ghost use Rattle.blake3.specs.FourChunks.{blockNode, Inside, Begun, Stepped, Carried, Ended};
+ghost use Rattle.blake3.specs.FourChunks.{lastBlock, blockNode, Inside, Begun, Stepped, Carried, Ended};
 use super::node::Node;
 use super::node::finish;
 use super::node::start;
@@ -20,7 +20,7 @@ use super::tree::whole_block;
 // The number of lanes.
 const LANES: usize = 4;
 
-// The last block of a whole chunk: sixteen blocks count from 0.
+// The last block of a whole chunk.
 const LAST: usize = 15;
 
 // Four chunks of an input, one for each lane: where each starts, the counter of the first, the mode's flag bits.
@@ -180,8 +180,8 @@ pub fn blocks(s: &[u8], c: Chunks, a: usize, e: usize, h: &mut [u32; 32])
 }
 
 // The chaining values h of each lane's chunk, which is whole, from those before block a.
-pub fn ends(s: &[u8], c: Chunks, a: usize, h: &mut [u32; 32])
-    requires { ⌜ (a ≤ 15) × Inside (now s) c chunkLen × Lanes 8 (now h) ⌝ }
+pub fn whole_chunks(s: &[u8], c: Chunks, a: usize, h: &mut [u32; 32])
+    requires { ⌜ (a ≤ lastBlock) × Inside (now s) c chunkLen × Lanes 8 (now h) ⌝ }
     ensures { λ _. ⌜ Ended (now (s .entry)) c a (now (h .entry)) (now (h .exit)) ⌝ }
 {
     blocks(s, c, a, LAST, h);

@@ -129,7 +129,8 @@ pub fn permute(m: [u32; 16]) -> [u32; 16]
     ]
 }
 
-// All seven rounds, written one after the other: a loop would keep the state in memory.
+// All seven rounds, one after the other. A round is the columns and then the diagonals: by `round-is`, in specs/RoundLaws,
+// the specification's eight steps. A loop, or a function that makes one round, would keep the state in memory.
 pub fn rounds(s: [u32; 16], m: [u32; 16]) -> [u32; 16]
     ensures { λ r. ⌜ r ≡ spec.rounds 7 s m ⌝ }
 {

@@ -13,7 +13,7 @@ use super::lanes::Chunks;
 use super::node::Node;
 use super::node::chaining;
 
-// The bytes of a block and of chunks.
+// The bytes of a block, and of one to four chunks.
 pub const BLOCK: usize = 64;
 
 const CHUNK: usize = 1024;
@@ -76,7 +76,7 @@ fn word_at(s: &[u8], p: usize) -> u32
 
 // The sixteen words of block i, which lies in s. With no test in it, the loop is compiled to four vector loads.
 pub fn whole_block(s: &[u8], i: usize) -> [u32; 16]
-    requires { ⌜ 64 * i + 64 ≤ length (now s) ⌝ }
+    requires { ⌜ blockLen * i + blockLen ≤ length (now s) ⌝ }
     ensures { λ r. ⌜ r ≡ blockAt (now (s .entry)) i ⌝ }
 {
     let mut m = [0u32; 16];
@@ -178,7 +178,7 @@ fn parent_node(key: [u32; 8], mode: u32, l: [u32; 8], r: [u32; 8]) -> Node
 }
 
 // The chaining values of the chunks of s, three whole ones and a last one, each in its lane.
-fn four(key: [u32; 8], mode: u32, s: &[u8], t: u64) -> [u32; 32]
+fn chunk_values(key: [u32; 8], mode: u32, s: &[u8], t: u64) -> [u32; 32]
     requires { ⌜ Four (now s) t ⌝ }
     ensures { λ r. ⌜ Each 8 r (λ j. valueAt key mode (now (s .entry)) t j) ⌝ }
 {
@@ -186,34 +186,34 @@ fn four(key: [u32; 8], mode: u32, s: &[u8], t: u64) -> [u32; 32]
     let c = Chunks {
         at: [0, CHUNK, TWO_CHUNKS, THREE_CHUNKS],
         first: t,
-        mode: mode,
+        mode,
     };
     let mut h = lanes::spread(key);
     if n == FOUR_CHUNKS {
-        lanes::ends(s, c, 0, &mut h);
+        lanes::whole_chunks(s, c, 0, &mut h);
         return h;
     }
-    // all lanes as far as the last chunk goes, but for its last block; then three chunks to their ends, and lane 3 idles
+    // as far as the last chunk goes, but for its last block; then lane 3 is idle, and the other three go to their ends
     let b = (n - THREE_CHUNKS - 1) / BLOCK;
     lanes::blocks(s, c, 0, b, &mut h);
     let w = lanes::lane8(&h, 3);
     let d = Chunks {
         at: [0, CHUNK, TWO_CHUNKS, TWO_CHUNKS],
         first: t,
-        mode: mode,
+        mode,
     };
-    lanes::ends(s, d, b, &mut h);
+    lanes::whole_chunks(s, d, b, &mut h);
     let last = chaining(last_node(mode, &s[THREE_CHUNKS..], t + 3, b, w));
     lanes::set8(&mut h, 3, last);
     h
 }
 
 // The node over s, which is three whole chunks and a last one.
-fn quad(key: [u32; 8], mode: u32, s: &[u8], t: u64) -> Node
+fn four_chunks(key: [u32; 8], mode: u32, s: &[u8], t: u64) -> Node
     requires { ⌜ Four (now s) t ⌝ }
     ensures { λ r. ⌜ r ≡ node key mode (now (s .entry)) t ⌝ }
 {
-    let h = four(key, mode, s, t);
+    let h = chunk_values(key, mode, s, t);
     let l = chaining(parent_node(key, mode, lanes::lane8(&h, 0), lanes::lane8(&h, 1)));
     let r = chaining(parent_node(key, mode, lanes::lane8(&h, 2), lanes::lane8(&h, 3)));
     parent_node(key, mode, l, r)
@@ -242,7 +242,7 @@ pub fn subtree(key: [u32; 8], mode: u32, s: &[u8], t: u64) -> Node
     }
     // three whole chunks and a last one
     if (n - 1) / CHUNK == 3 {
-        return quad(key, mode, s, t);
+        return four_chunks(key, mode, s, t);
     }
     let p = left(n);
     let l = chaining(subtree(key, mode, &s[..p], t));

@@ -1,10 +1,8 @@
 -- `blake3::lanes::end` meets its contract: the lanes below j are those of the end. Assumes nothing.
 use borrow.Author.Needs.{needs}
-use mathlib.Core.Path.{_≡_, refl, sym, ap, _∙_}
-use mathlib.Core.List.{List}
-use Prim.Native.Nat.{ℕ, _+_, _-_, _≤_, _<_}
+use mathlib.Core.Path.{refl, ap, _∙_}
+use Prim.Native.Nat.{_-_, _≤_, _<_}
 use native.Mathlib.Omega.{arith}
-use lib.ListN.{length}
 use Rattle.blake3.specs.Words.{first}
 use Rattle.blake3.specs.Compression.{finish}
 use Rattle.blake3.specs.Lanes.{lane}

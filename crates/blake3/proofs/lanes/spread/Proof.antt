@@ -1,9 +1,8 @@
 -- `blake3::lanes::spread` meets its contract: the lanes below j have the key. Assumes nothing.
 use borrow.Author.Needs.{needs}
-use mathlib.Core.Path.{_≡_, refl}
-use Prim.Native.Nat.{ℕ, _+_, _-_, _≤_, _<_}
+use mathlib.Core.Path.{refl}
+use Prim.Native.Nat.{_-_, _≤_}
 use native.Mathlib.Omega.{arith}
-use lib.ListN.{length}
 use Rattle.blake3.specs.Lanes.{lane}
 use Rattle.blake3.proofs.LaneLaws.{Until, none, more, all}
 use Rattle.blake3.proofs.lanes.spread.Statement.{statement}

@@ -1,12 +1,8 @@
 -- `blake3::lanes::step` meets its contract: the compression of each lane. Assumes nothing.
 use borrow.Author.Needs.{needs}
-use mathlib.Core.Path.{_≡_, refl, sym, ap, _∙_}
-use mathlib.Core.List.{List}
-use Prim.Native.Nat.{ℕ, _+_, _-_, _≤_, _<_}
-use native.Mathlib.Omega.{arith}
-use lib.ListN.{length}
-use Rattle.blake3.specs.Words.{word, first}
-use Rattle.blake3.specs.Compression.{start, finish, compress, chaining}
+use mathlib.Core.Path.{refl, _∙_}
+use Rattle.blake3.specs.Words.{first}
+use Rattle.blake3.specs.Compression.{finish, compress, chaining}
 use Rattle.blake3.specs.Rounds.{rounds}
 use Rattle.blake3.specs.Lanes.{lane}
 use Rattle.blake3.proofs.lanes.step.Statement.{statement}

@@ -18,7 +18,7 @@ use Rattle.blake3.proofs.tree.subtree.Kinds as subtree-kinds
 use Rattle.blake3.proofs.tree.+subtree.Lts-subtree as subtree-lts
 use Rattle.blake3.proofs.node.chaining.Reads as chaining-reads
 use Rattle.blake3.proofs.tree.chunk_node.Reads as chunk-node-reads
-use Rattle.blake3.proofs.tree.quad.Reads as quad-reads
+use Rattle.blake3.proofs.tree.four_chunks.Reads as four-chunks-reads
 use Rattle.blake3.proofs.tree.left.Reads as left-reads
 use Rattle.blake3.proofs.tree.parent_node.Reads as parent-node-reads
 use Rattle.blake3.proofs.tree.+subtree.{statement}
@@ -46,8 +46,8 @@ pub +subtree-spec : {M : Type 1} → statement M
     λ n. subtree-lts.spec (
       chunk-node-reads.Asked,
       chunk-node-reads.Learnt,
-      quad-reads.Asked,
-      quad-reads.Learnt,
+      four-chunks-reads.Asked,
+      four-chunks-reads.Learnt,
       left-reads.Asked,
       left-reads.Learnt,
       and 1 subtree-kinds.ps (falls 1 subtree-kinds.ps _<_ μ n) subtree.Pre,
@@ -63,7 +63,7 @@ pub +subtree-spec : {M : Type 1} → statement M
     (λ c. let g = c .before .before .before .args in c .chunk-node .ensures ∙ sym (node-chunk (g .key) (g .mode) (g .s .now) (g .t) (c .before .if1 .taken)))
     (λ c. search needs)
     (λ c κs. let g = c .before .before .before in (omega arith, omega arith, omega (arith, g .pre .1)))
-    (λ c. c .quad .ensures)
+    (λ c. c .four-chunks .ensures)
     (λ c κs. search needs)
     (λ c. sym (front-length _ _ (c .before .left .ensures)))
     (λ c κs. let g = c .before .before .before .before .before in let k = c .before .left .ensures in

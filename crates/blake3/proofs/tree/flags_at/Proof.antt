@@ -1,5 +1,5 @@
 -- `blake3::tree::flags_at` meets its contract: the first block is marked. Assumes nothing.
-use mathlib.Core.Path.{_≡_, refl, sym, ap, _∙_}
+use mathlib.Core.Path.{_≡_, refl, sym, ap}
 use Prim.Native.Nat.{ℕ, zero, suc, _<_}
 use native.Mathlib.Omega.{arith}
 use lib.Bits.{bitOr}

@@ -64,37 +64,37 @@ part-row-start c = let e = c .before .before in let h = row-end (given e .pre) (
 part-row-end : tie.Need-part-row-end Inv-loop μ-loop
 part-row-end c = let e = c .before .before in let h = row-end (given e .pre) (e .before .if1 .left) (e .if2 .left) in search needs
 
+shared-slice-read-small : tie.Need-shared-slice-read-small Inv-loop μ-loop
+shared-slice-read-small c =
+    let e = c .before .before .before .before in
+    row-some (given e .pre) (e .before .if1 .left) (e .if2 .left) (part-of _ _ _ _ (omega arith))
+
 fits-requires : tie.Need-fits-requires Inv-loop μ-loop
 fits-requires c κs =
-    let e = c .before .before .before in
+    let e = c .before .before .before .before .before in
     row-sized (given e .pre) (e .before .if1 .left) (e .if2 .left) (part-of _ _ _ _ (omega arith))
 
 returns-4 : tie.Need-returns-4 Inv-loop μ-loop
 returns-4 c =
     let fits = c .before in
-    let new = fits .before .before in
+    let new = fits .before .before .before .before in
     let e = new .before .before in
     let fine = row-fits (given e .pre) (e .before .if1 .left) (e .if2 .left) (part-of _ _ _ _ (omega arith)) _ (fits .fits2 .ensures) in
     sym (here e .loop .inv .1
     ∙ walk-bad _ _ _ _ _ _ _ (omega arith) (e .before .if1 .left) (e .if2 .left) (new .if3 .left) (fine ∙ not-true _ (c .if4 .taken)))
 
-shared-slice-read-small : tie.Need-shared-slice-read-small Inv-loop μ-loop
-shared-slice-read-small c =
-    let e = c .before .before .before .before .before .before in
-    row-some (given e .pre) (e .before .if1 .left) (e .if2 .left) (part-of _ _ _ _ (omega arith))
-
 loop-again : tie.Need-loop-again Inv-loop μ-loop
 loop-again c =
-    let left = c .before .before in
-    let fits = left .before in
-    let new = fits .before .before in
+    let fits = c .before in
+    let read = fits .before in
+    let new = read .before .before .before in
     let e = new .before .before in
     let s = e .before .if1 .left in
     let fine = row-fits (given e .pre) s (e .if2 .left) (part-of _ _ _ _ (omega arith)) _ (fits .fits2 .ensures) in (
       omega arith,
       here e .loop .inv .1
-          ∙ walk-more _ _ _ _ _ _ _ (omega arith) s (e .if2 .left) _ (new .if3 .left) (fine ∙ not-false _ (left .if4 .left))
-          (row-next (given e .pre) s (e .if2 .left) (part-of _ _ _ _ (omega arith)) ∙ sym (c .small .ensures .0)),
+          ∙ walk-more _ _ _ _ _ _ _ (omega arith) s (e .if2 .left) _ (new .if3 .left) (fine ∙ not-false _ (c .if4 .left))
+          (row-next (given e .pre) s (e .if2 .left) (part-of _ _ _ _ (omega arith)) ∙ sym (read .small .ensures .0)),
     )
 
 returns-5 : tie.Need-returns-5 Inv-loop μ-loop
@@ -104,5 +104,5 @@ pub marked-spec : {M : Type 1} → statement M
 marked-spec =
     tie.close
     (tie.spec Inv-loop μ-loop loop-holds returns returns-2 (λ c. omega arith) returns-3 (λ c. omega arith) mul-off add-off add-row
-    (λ c. omega arith) part-row-start part-row-end fits-requires returns-4 (λ c. omega arith) shared-slice-read-small
-    (λ c κs. search needs) (λ c. omega arith) (λ c. omega arith) loop-again returns-5)
+    (λ c. omega arith) part-row-start part-row-end shared-slice-read-small (λ c κs. search needs) fits-requires returns-4
+    (λ c. omega arith) (λ c. omega arith) (λ c. omega arith) loop-again returns-5)

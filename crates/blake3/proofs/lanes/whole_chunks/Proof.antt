@@ -1,4 +1,4 @@
--- `blake3::lanes::ends` meets its contract: each lane is carried to its chunk's last block, and over it. Assumes nothing.
+-- `blake3::lanes::whole_chunks` meets its contract: each lane is carried to its chunk's last block, and over it. Assumes nothing.
 use borrow.Author.Needs.{needs}
 use mathlib.Core.Path.{_≡_, _∙_}
 use Prim.Native.Nat.{ℕ, _+_}
@@ -7,8 +7,8 @@ use lib.ListN.{length-drop}
 use Rattle.blake3.specs.Words.{word}
 use Rattle.blake3.specs.FourChunks.{from}
 use Rattle.blake3.proofs.FourLaws.{whole}
-use Rattle.blake3.proofs.lanes.ends.Statement.{statement}
-use Rattle.blake3.proofs.lanes.ends.Tie as tie
+use Rattle.blake3.proofs.lanes.whole_chunks.Statement.{statement}
+use Rattle.blake3.proofs.lanes.whole_chunks.Tie as tie
 
 blocks-requires : tie.Need-blocks-requires
 blocks-requires c κs = let p = c .before .before .pre in (p .0, (λ j q. omega (arith, p .1 .0 j q), p .1 .1), p .2)
@@ -28,5 +28,5 @@ returns c =
           (c .before .before .before .blocks2 .ensures .1 j q key y),
     )
 
-pub ends-spec : {M : Type 1} → statement M
-ends-spec = tie.close (tie.spec blocks-requires step-requires returns)
+pub whole-chunks-spec : {M : Type 1} → statement M
+whole-chunks-spec = tie.close (tie.spec blocks-requires step-requires returns)

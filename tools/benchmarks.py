@@ -7,9 +7,12 @@ import pathlib
 import subprocess
 import sys
 
-SUM_BAR, SUM_REACH = 0.75, 1.0
-CALL_BAR, CALL_REACH = 2.0, 1.2
 LONGEST = 32500
+# bars, each with what it should reach (or None): of BLAKE3 our speed by the portable crate's, by length; of packet calls their time in scans, by what
+# the stores hold; of a transfer our time by the original's
+SUM_BARS = {64: (0.8, None), 1300: (0.85, None), 4096: (1.8, 2.1), LONGEST: (1.8, 2.1)}
+CALL_BARS = {"full": 1.3, "empty": 1.6}
+TRANSFER_BAR, TRANSFER_REACH = 3.0, 2.5
 CELLS = (1, 5, 15, 45)
 KINDS = {
     "init-new": "init, new id",
@@ -25,6 +28,21 @@ KINDS = {
     "ack-done": "ack of a done",
 }
 SUMMED = "done"
+# the calls of a transfer in their order, whose they are, and how many stores each reads
+TRANSFER = {
+    "push": ("push", "tablet", 1),
+    "init": ("init", "office", 2),
+    "ack-init": ("ack of an init", "tablet", 2),
+    "wake-chunks": ("wake, sends 25 chunks", "tablet", 1),
+    "chunk": ("chunk", "office", 2),
+    "ack-chunk": ("ack of a chunk", "tablet", 2),
+    "wake-done": ("wake, sends the done: a sum", "tablet", 1),
+    "done": ("done: a sum", "office", 2),
+    "ack-done": ("ack of a done", "tablet", 2),
+    "take": ("take", "office", 1),
+    "read": ("read", "tablet", 2),
+}
+SUMS = 2  # of them
 
 
 class Figures:
@@ -42,6 +60,13 @@ class Figures:
         if figure is None:
             sys.exit(f"benchmarks.py: no estimate of {'/'.join(map(str, place))} in {self.folder}")
         return figure
+
+    def counted(self, group, function):
+        """How many calls a benchmark is about, which is its value, and the median of all of them together."""
+        counts = [int(folder.name) for folder in self.folder.joinpath(group, function).iterdir() if folder.name.isdigit()]
+        if len(counts) != 1:
+            sys.exit(f"benchmarks.py: {group}/{function} has {len(counts)} values")
+        return counts[0], self.get(group, function, counts[0])
 
     def platforms(self):
         return sorted(group.name.removeprefix("sums-") for group in self.folder.glob("sums-*"))
@@ -65,6 +90,10 @@ def ns(figure):
 
 def ratio(figure, digits=2):
     return f"{figure:.{digits}f}"
+
+
+def percent(figure):
+    return f"{100 * figure:.1f} %"
 
 
 def speed(figures, platform, length):
@@ -111,31 +140,37 @@ def machine():
     return table(["", ""], rows)
 
 
-def verdict(met, reached):
-    return "reached" if reached else "met" if met else "MISSED"
+def bar(text, reach, measured, met, reached):
+    """A row of the table of bars; one without a reach is met or missed."""
+    return [text, "" if reach is None else str(reach), measured, "reached" if reach is not None and reached else "met" if met else "MISSED"]
+
+
+def sum_bars(figures):
+    for length, (least, reach) in SUM_BARS.items():
+        speeds = [speed(one, "Portable", length) for one in figures.rounds()]
+        yield bar(f"BLAKE3 of {length:,} bytes: at least {least} of the portable crate's speed", reach, ", ".join(ratio(one, 3) for one in speeds),
+                  min(speeds) >= least, reach is not None and min(speeds) >= reach)
+
+
+def call_bars(figures):
+    for fill, most in CALL_BARS.items():
+        ratios = {kind: max(one.scans(fill, kind) for one in figures.processes()) for kind in KINDS if kind != SUMMED}
+        worst = max(ratios, key=ratios.get)
+        over = sum(r > most for r in ratios.values())
+        measured = f"at most {ratio(ratios[worst])} ({KINDS[worst]}), at least {ratio(min(ratios.values()))}; {over} of {len(ratios)} above {most}"
+        yield bar(f"a packet call without a sum, {fill} stores of 45 cells: at most {most} scans of both", None, measured, not over, False)
+
+
+def transfer_bars(figures):
+    ours, theirs = figures.get("transfer", "ours"), figures.find("transfer", "original")
+    if theirs is not None:
+        times = ours / theirs
+        yield bar(f"a transfer of 32,500 bytes: at most {TRANSFER_BAR} times the original's", TRANSFER_REACH, ratio(times),
+                  times <= TRANSFER_BAR, times <= TRANSFER_REACH)
 
 
 def bars(figures):
-    speeds = [speed(one, "Portable", LONGEST) for one in figures.rounds()]
-    ratios = {
-        (kind, fill): max(one.scans(fill, kind) for one in figures.processes())
-        for fill in ("full", "empty")
-        for kind in KINDS
-        if kind != SUMMED
-    }
-    (kind, fill), worst = max(ratios.items(), key=lambda item: item[1])
-    best = min(ratios.values())
-    over = sum(r > CALL_REACH for r in ratios.values())
-    calls = f"at most {ratio(worst)} ({KINDS[kind]}, {fill} stores), at least {ratio(best)}; {over} of {len(ratios)} above {CALL_REACH}"
-    return table(
-        ["bar", "reach", "measured", ""],
-        [
-            [f"BLAKE3 of 32,500 bytes: at least {SUM_BAR} of the portable crate's speed", str(SUM_REACH), ", ".join(ratio(one, 3) for one in speeds),
-             verdict(min(speeds) >= SUM_BAR, min(speeds) >= SUM_REACH)],
-            [f"a packet call without a sum, 45 cells: at most {CALL_BAR} scans of both stores", str(CALL_REACH), calls,
-             verdict(worst <= CALL_BAR, worst <= CALL_REACH)],
-        ],
-    )
+    return table(["bar", "reach", "measured", ""], [*sum_bars(figures), *call_bars(figures), *transfer_bars(figures)])
 
 
 def sums(figures):
@@ -143,7 +178,7 @@ def sums(figures):
     runs += [(platform, platform, figures) for platform in figures.platforms()]
     rows = []
     for name, platform, run in runs:
-        for length in (64, 1300, LONGEST):
+        for length in SUM_BARS:
             ours, crate = (run.get(f"sums-{platform}", who, length) for who in ("ours", "crate"))
             rows.append([name, f"{length:,}", ns(ours), ns(crate), f"{1000 * length / ours:,.0f}", ratio(speed(run, platform, length), 3)])
     return table(["the crate's implementation", "bytes", "ours, ns", "crate, ns", "ours, MB/s", "our speed / the crate's"], rows)
@@ -179,6 +214,34 @@ def transfer(figures):
     if theirs is None:
         return table(["ours, ns"], [[ns(ours)]])
     return table(["ours, ns", "original, ns", "ours / original"], [[ns(ours), ns(theirs), ratio(ours / theirs)]])
+
+
+def by_call(figures):
+    whole = figures.get("transfer", "ours")
+    rows, left = [], whole
+    for name, (label, side, _) in TRANSFER.items():
+        count, spent = figures.counted("transfer-calls", name)
+        left -= spent
+        rows.append([label, side, str(count), ns(spent / count), ns(spent), percent(spent / whole)])
+    rows.append(["packets copied into frames and out of runs", "host", "", "", ns(left), percent(left / whole)])
+    return table(["call", "of", "calls", "ns each", "ns in all", "share"], rows)
+
+
+def floor(figures):
+    """What reading the stores takes at least, once in each call, and the sums with it."""
+    whole, theirs, scan = figures.get("transfer", "ours"), figures.find("transfer", "original"), figures.get("scan", "joined", CELLS[-1])
+    counts = {name: figures.counted("transfer-calls", name)[0] for name in TRANSFER}
+    both = sum(count for name, count in counts.items() if TRANSFER[name][2] == 2)
+    one = sum(count for name, count in counts.items() if TRANSFER[name][2] == 1)
+    platform = figures.platforms()[0]
+    reading, summing = (both + one / 2) * scan, SUMS * figures.get(f"sums-{platform}", "ours", LONGEST)
+    parts = [
+        (f"both stores read in each of {both} packet calls, one in each of {one} others", reading),
+        (f"{SUMS} sums of 32,500 bytes", summing),
+        ("both", reading + summing),
+    ]
+    rows = [[label, ns(part), percent(part / whole), *([ratio(part / theirs)] if theirs else [])] for label, part in parts]
+    return table(["at least", "ns", "share of ours", *(["/ the original's transfer"] if theirs else [])], rows)
 
 
 def page(figures):
@@ -223,8 +286,9 @@ that of a held id has another length and starts its message again.
 Every call first checks that both stores are sound; a free cell has to be zero in all its bytes,
 a held one past its piece, so an empty store costs more than a full one.
 
-The scan asks whether as many bytes as both stores have are all zero, by joining them:
-{scans[1]:.0f} bytes per ns, with SIMD.
+The scan asks whether as many bytes as both stores have are all zero, by joining them,
+64 bytes in a step: {scans[1]:.0f} bytes per ns, with SIMD.
+A loop of shorter steps takes 0.9 or 1.8 times as long, by where the compiler happens to put it.
 Stopping at the first byte that is not zero reads {scans[0]:.1f} bytes per ns, one at a time;
 the bar is about the quicker one.
 Stores are copied anew before each call, outside the measured time.
@@ -251,7 +315,14 @@ Calls without a sum: a read of an unknown id, and a chunk at a held index. In na
 32,500 bytes from one node to another in memory: push, init, 25 chunks, done, each acknowledged, take, read.
 Packets are copied into frames on the way, on both sides alike{runtime}.
 
-{transfer(figures)}"""
+{transfer(figures)}
+By call, each timed in the course of a transfer (the clock is in these figures, at each call):
+
+{by_call(figures)}
+Most of it is that every call checks its stores before it touches them.
+If it is to read them in every call, a scan is the least that takes:
+
+{floor(figures)}"""
 
 
 if __name__ == "__main__":

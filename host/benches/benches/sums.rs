@@ -18,7 +18,7 @@ fn ours(bytes: &[u8]) -> [u8; 32] {
 
 fn sums(c: &mut Criterion) {
     let mut group = c.benchmark_group(format!("sums-{:?}", Platform::detect()));
-    for length in [64, benches::PIECE, benches::LONGEST] {
+    for length in [64, benches::PIECE, benches::FOUR_CHUNKS, benches::LONGEST] {
         let bytes = benches::message(length);
         assert_eq!(&ours(&bytes), blake3::hash(&bytes).as_bytes(), "the sums of {length} bytes");
         group.throughput(Throughput::Bytes(length as u64));

@@ -1,11 +1,15 @@
-//! A whole transfer of the longest message, from the push to the read packet: the library, and the original with its runtime.
+//! A whole transfer of the longest message, from the push to the read packet: the library, and the original with its runtime. And the library's calls in it, by
+//! what each is about.
+
+use std::time::{Duration, Instant};
 
 use benches::library::{self, Node};
 use benches::{framed, message, KEY, LONGEST, PEER_KEY};
 use criterion::{
-    criterion_group, criterion_main, measurement::WallTime, BatchSize, BenchmarkGroup, Criterion,
+    criterion_group, criterion_main, measurement::WallTime, BatchSize, BenchmarkGroup, BenchmarkId, Criterion,
 };
-use oracle::call::{Id, Packet};
+use oracle::call::{Id, Packet, ACK};
+use oracle::frame::{self, Kind};
 use socketlemon::Store;
 
 const ID: Id = *b"house 12";
@@ -15,11 +19,67 @@ fn frames(packets: Vec<Packet>) -> Vec<Vec<u8>> {
     packets.into_iter().map(|packet| framed(packet.bytes)).collect()
 }
 
+/// What makes the calls of a transfer.
+trait Caller {
+    fn call<T>(&mut self, name: &'static str, call: impl FnOnce() -> T) -> T;
+}
+
+/// Makes them, and no more.
+struct Plain;
+
+impl Caller for Plain {
+    fn call<T>(&mut self, _: &'static str, call: impl FnOnce() -> T) -> T {
+        call()
+    }
+}
+
+/// The calls of one name: how many they are, and how long they took together.
+struct Calls {
+    name: &'static str,
+    count: usize,
+    spent: Duration,
+}
+
+/// Makes them and times each.
+#[derive(Default)]
+struct Timed(Vec<Calls>);
+
+impl Caller for Timed {
+    fn call<T>(&mut self, name: &'static str, call: impl FnOnce() -> T) -> T {
+        let start = Instant::now();
+        let value = call();
+        let spent = start.elapsed();
+        match self.0.iter_mut().find(|calls| calls.name == name) {
+            Some(calls) => {
+                calls.count += 1;
+                calls.spent += spent;
+            }
+            None => self.0.push(Calls { name, count: 1, spent }),
+        }
+        value
+    }
+}
+
+/// The name of the call that takes a packet with these flags.
+fn packet_call(flags: u8) -> &'static str {
+    match (frame::kind(flags), flags & ACK != 0) {
+        (Kind::Init, false) => "init",
+        (Kind::Init, true) => "ack-init",
+        (Kind::Chunk, false) => "chunk",
+        (Kind::Chunk, true) => "ack-chunk",
+        (Kind::Done, false) => "done",
+        (Kind::Done, true) => "ack-done",
+        (Kind::Read, _) => "read",
+        other => unreachable!("a transfer has no {other:?}"),
+    }
+}
+
 /// Hands packets to a node of the library; gives what it sends back, and whether its senders should wake.
-fn hand(node: &mut Node, packets: Vec<Packet>) -> (Vec<Packet>, bool) {
+fn hand(caller: &mut impl Caller, node: &mut Node, packets: Vec<Packet>) -> (Vec<Packet>, bool) {
     let mut back = (Vec::new(), false);
     for frame in frames(packets) {
-        let (run, wake) = node.packet(&frame).expect("a packet of the peer");
+        let answer = caller.call(packet_call(frame[8]), || node.packet(&frame));
+        let (run, wake) = answer.expect("a packet of the peer");
         back.0.extend(library::packets(run));
         back.1 |= wake;
     }
@@ -27,15 +87,22 @@ fn hand(node: &mut Node, packets: Vec<Packet>) -> (Vec<Packet>, bool) {
 }
 
 /// Sends a message from the tablet to the office, and gives it as it was taken there.
-fn ours(tablet: &mut Node, office: &mut Node, data: &[u8]) -> Vec<u8> {
-    let mut out = library::packets(tablet.push(ID, data));
+fn ours(caller: &mut impl Caller, (tablet, office): &mut (Node, Node), data: &[u8]) -> Vec<u8> {
+    let mut out = library::packets(caller.call("push", || tablet.push(ID, data)));
+    let mut wakes = ["wake-chunks", "wake-done"].into_iter();
     while !out.is_empty() {
-        let (replies, _) = hand(office, out);
-        let (_, wake) = hand(tablet, replies);
-        out = if wake { library::packets(tablet.wake(ID)) } else { Vec::new() };
+        let (replies, _) = hand(caller, office, out);
+        let (_, wake) = hand(caller, tablet, replies);
+        out = if wake {
+            let name = wakes.next().expect("the tablet wakes twice");
+            library::packets(caller.call(name, || tablet.wake(ID)))
+        } else {
+            Vec::new()
+        };
     }
-    let (taken, read) = office.take();
-    hand(tablet, library::packets(read));
+    let (taken, read) = caller.call("take", || office.take());
+    let read = library::packets(read);
+    hand(caller, tablet, read);
     taken
 }
 
@@ -70,16 +137,37 @@ fn original(group: &mut BenchmarkGroup<'_, WallTime>, data: &[u8]) {
 #[cfg(not(original))]
 fn original(_: &mut BenchmarkGroup<'_, WallTime>, _: &[u8]) {}
 
+/// The library's nodes before a transfer.
+fn fresh() -> (Node, Node) {
+    let node = |key, peer| Node::new(key, peer, Store::MOST_CELLS);
+    (node(KEY, PEER_KEY), node(PEER_KEY, KEY))
+}
+
 fn transfer(c: &mut Criterion) {
     let data = message(LONGEST);
-    let node = |key, peer| Node::new(key, peer, Store::MOST_CELLS);
-    let fresh = || (node(KEY, PEER_KEY), node(PEER_KEY, KEY));
-    let transfer = |nodes: &mut (Node, Node)| ours(&mut nodes.0, &mut nodes.1, &data);
+    let transfer = |nodes: &mut (Node, Node)| ours(&mut Plain, nodes, &data);
     assert!(transfer(&mut fresh()) == data, "the library's message arrives");
     let mut group = c.benchmark_group("transfer");
     group.bench_function("ours", |b| b.iter_batched_ref(fresh, transfer, BatchSize::PerIteration));
     original(&mut group, &data);
 }
 
-criterion_group!(all, transfer);
+/// All calls of one name in a transfer, for each name; the value is how many they are.
+fn calls(c: &mut Criterion) {
+    let data = message(LONGEST);
+    let timed = || {
+        let mut calls = Timed::default();
+        ours(&mut calls, &mut fresh(), &data);
+        calls.0
+    };
+    let mut group = c.benchmark_group("transfer-calls");
+    for Calls { name, count, .. } in timed() {
+        let spent = || timed().iter().find(|calls| calls.name == name).expect("its calls").spent;
+        group.bench_function(BenchmarkId::new(name, count), |b| {
+            b.iter_custom(|transfers| (0..transfers).map(|_| spent()).sum::<Duration>())
+        });
+    }
+}
+
+criterion_group!(all, transfer, calls);
 criterion_main!(all);

@@ -8,6 +8,9 @@ pub mod scene;
 /// The bytes of each piece that is sent.
 pub const PIECE: usize = socketlemon::PIECE;
 
+/// The bytes that BLAKE3 hashes at once: four chunks.
+pub const FOUR_CHUNKS: usize = 4096;
+
 /// The longest message, 25 pieces.
 pub const LONGEST: usize = socketlemon::MOST_BYTES;
 

@@ -224,7 +224,7 @@ def by_call(figures):
         left -= spent
         rows.append([label, side, str(count), ns(spent / count), ns(spent), percent(spent / whole)])
     rows.append(["packets copied into frames and out of runs", "host", "", "", ns(left), percent(left / whole)])
-    return table(["call", "of", "calls", "ns each", "ns in all", "share"], rows)
+    return table(["call", "node", "calls", "ns each", "ns in all", "share"], rows)
 
 
 def floor(figures):
@@ -238,7 +238,7 @@ def floor(figures):
     parts = [
         (f"both stores read in each of {both} packet calls, one in each of {one} others", reading),
         (f"{SUMS} sums of 32,500 bytes", summing),
-        ("both", reading + summing),
+        ("together", reading + summing),
     ]
     rows = [[label, ns(part), percent(part / whole), *([ratio(part / theirs)] if theirs else [])] for label, part in parts]
     return table(["at least", "ns", "share of ours", *(["/ the original's transfer"] if theirs else [])], rows)
@@ -316,11 +316,11 @@ Calls without a sum: a read of an unknown id, and a chunk at a held index. In na
 Packets are copied into frames on the way, on both sides alike{runtime}.
 
 {transfer(figures)}
-By call, each timed in the course of a transfer (the clock is in these figures, at each call):
+By call, each timed in the course of a transfer; the clock adds its {ns(figures.get("clock", "nothing", 0))} ns to each:
 
 {by_call(figures)}
-Most of it is that every call checks its stores before it touches them.
-If it is to read them in every call, a scan is the least that takes:
+Every call checks the stores that it is given before it touches them.
+If all their bytes are read in every call, a scan is the least that this takes:
 
 {floor(figures)}"""
 

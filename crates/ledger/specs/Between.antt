@@ -37,7 +37,7 @@ spares k h (setup receive store role) = false
 spares k h (setup send store role) = true
 spares k h (packet p out) = not (sameKey k (asked p)) || leavesOpen (kind p) h p
 spares k h (push p out) = true
-spares k h (wake kind id clock out) = true
+spares k h (wake w out) = true
 spares k h (report id out) = true
 spares k h (takeWhole taken out) = true
 
@@ -64,7 +64,7 @@ unfoldable pub ackedBy : Key → Call → List Piece → List Piece
 ackedBy k (setup which store role) l = l
 ackedBy k (packet p out) l = cond (sameKey k (asked p)) (withChunk (kind p) p l) l
 ackedBy k (push p out) l = l
-ackedBy k (wake kind id clock out) l = l
+ackedBy k (wake w out) l = l
 ackedBy k (report id out) l = l
 ackedBy k (takeWhole taken out) l = l
 

@@ -61,7 +61,7 @@ module _ (k : Key) where
       rw (z, d) (own-kept (kind p) p g (l .book) (rw d at e) (rw z at h)))
       (λ z. rw z (other-enter k (packet p out) l z ∙ e))
   call-kept (push p out) g l e h = e
-  call-kept (wake kind id clock out) g l e h = e
+  call-kept (wake w out) g l e h = e
   call-kept (report id out) g l e h = e
   call-kept (takeWhole taken out) g l e h = e
 
@@ -98,7 +98,7 @@ module _ (k : Key) where
   by-append (setup which store role) l m = refl
   by-append (packet p out) l m = cases (sameKey k (asked p)) (λ z. rw z (chunk-append (kind p) p l m)) (λ z. rw z)
   by-append (push p out) l m = refl
-  by-append (wake kind id clock out) l m = refl
+  by-append (wake w out) l m = refl
   by-append (report id out) l m = refl
   by-append (takeWhole taken out) l m = refl
 

@@ -9,7 +9,7 @@ use Rattle.machine.specs.Sound.{sound}
 use Rattle.machine.specs.Refusals.{Refusals, refusal}
 use Rattle.machine.specs.Packet.{Packet, kind, kindRow, packetFront, packetRow, packetAnswer}
 use Rattle.machine.specs.Push.{Push, pushRow}
-use Rattle.machine.specs.Wake.{wakeRow}
+use Rattle.machine.specs.Wake.{Wake, wakeRow}
 use Rattle.machine.specs.Take.{oldestRow, takeRow, takeOf}
 use Rattle.machine_steps.specs.Refusals.{Clear, refusal-front}
 use Rattle.ledger.specs.RefusedLaws.{packet-number, take-number}
@@ -38,9 +38,9 @@ pub push-sound : (p : Push) (send out : List ℕ) → refusal (pushRow p send ou
 unfolding pushRow
 push-sound p send out e = refusal-front ((sound roleSend send, 25) ∷ []) _ refl e .0 .0
 
-pub wake-sound : (wake : ℕ) (id send out : List ℕ) → refusal (wakeRow wake id send out) ≡ 0 → sound roleSend send ≡ true
+pub wake-sound : (w : Wake) (send out : List ℕ) → refusal (wakeRow w send out) ≡ 0 → sound roleSend send ≡ true
 unfolding wakeRow
-wake-sound wake id send out e = refusal-front ((sound roleSend send, 25) ∷ []) _ refl e .0 .0
+wake-sound w send out e = refusal-front ((sound roleSend send, 25) ∷ []) _ refl e .0 .0
 
 -- take 25, then 23, 2
 module _ (recv taken out : List ℕ) where

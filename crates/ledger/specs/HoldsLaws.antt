@@ -23,7 +23,7 @@ use Rattle.machine.specs.Typed.{TypedPacket}
 use Rattle.machine.specs.Setup.{setupOf}
 use Rattle.machine.specs.Packet.{Packet, kind, frameBytes, recvStep, sendStep, packetRow}
 use Rattle.machine.specs.Push.{pushRow}
-use Rattle.machine.specs.Wake.{wakeRow, wakeOf}
+use Rattle.machine.specs.Wake.{wakeRow}
 use Rattle.machine.specs.Take.{takeRow, takeOf}
 use Rattle.machine_laws.specs.ValidSound.{valid-sound}
 use Rattle.machine_laws.specs.Fresh.{fresh-valid, setup-valid}
@@ -123,7 +123,7 @@ module _ (s : Stores) (l : Ledger) (h : Holds s l) where
 
   -- each call that answers 0, as the ledger enters it
   done-holds : (c : Call) → Typed c → answer c s ≡ 0 → Holds (after c s) (enter c l)
-  unfolding answer after enter wakeOf
+  unfolding answer after enter
   done-holds (setup receive store role) y e =
       let d = setup-done store role e in
       rw (e, d .1) (record {
@@ -138,9 +138,9 @@ module _ (s : Stores) (l : Ledger) (h : Holds s l) where
   done-holds (push p out) y e =
       let n : refusal (pushRow p (s .send) out) ≡ 0 = sym (push-number p (s .send) out) ∙ e in
       rw n (send-done _ (push-sound p (s .send) out n) (λ v. push-valid p (s .send) out y v n))
-  done-holds (wake which id clock out) y e =
-      let n : refusal (wakeRow which id (s .send) out) ≡ 0 = sym (wake-number (s .send) which id clock out) ∙ e in
-      rw n (send-done _ (wake-sound which id (s .send) out n) (λ v. wake-valid which id clock (decode (s .send)) y v))
+  done-holds (wake w out) y e =
+      let n : refusal (wakeRow w (s .send) out) ≡ 0 = sym (wake-number w (s .send) out) ∙ e in
+      rw n (send-done _ (wake-sound w (s .send) out n) (λ v. wake-valid w (decode (s .send)) y v))
   done-holds (report id out) y e = h
   done-holds (takeWhole taken out) y e = take-done taken out (sym (take-number (s .recv) taken out) ∙ e)
 

@@ -57,7 +57,7 @@ module _ (s : Stores) (l : Ledger) (h : Holds s l) (pages : List Page) (buffers 
         gives = y .gives;
       }
   done-taken (push p out) e = y
-  done-taken (wake kind id clock out) e = y
+  done-taken (wake w out) e = y
   done-taken (report id out) e = y
   done-taken (takeWhole taken out) e =
       let q = holds-demand s l h .takeGives taken out e in

@@ -145,7 +145,7 @@ enter (setup receive store role) l = record { recvRole = role; sendRole = l .sen
 enter (setup send store role) l = record { recvRole = l .recvRole; sendRole = role; book = l .book }
 enter (packet p out) l = withBook (packetIn (kind p) p (l .book)) l
 enter (push p out) l = l
-enter (wake kind id clock out) l = l
+enter (wake w out) l = l
 enter (report id out) l = l
 enter (takeWhole taken out) l = withBook (record { pages = l .book .pages; row = later (l .book .row) }) l
 

@@ -37,7 +37,7 @@ madeBy (setup receive store role) b l = []
 madeBy (setup send store role) b l = l
 madeBy (packet p out) b l = l ++ finished (kind p) (b .pages (asked p))
 madeBy (push p out) b l = l
-madeBy (wake kind id clock out) b l = l
+madeBy (wake w out) b l = l
 madeBy (report id out) b l = l
 madeBy (takeWhole taken out) b l = l
 
@@ -63,7 +63,7 @@ givenBy (setup receive store role) s l = []
 givenBy (setup send store role) s l = l
 givenBy (packet p out) s l = l
 givenBy (push p out) s l = l
-givenBy (wake kind id clock out) s l = l
+givenBy (wake w out) s l = l
 givenBy (report id out) s l = l
 givenBy (takeWhole taken out) s l = l ++ (record { before = taken; after = takeOf (s .recv) taken out .taken } ∷ [])
 

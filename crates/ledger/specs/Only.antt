@@ -26,7 +26,7 @@ concerns k (setup receive store role) = true
 concerns k (setup send store role) = false
 concerns k (packet p out) = sameKey k (asked p)
 concerns k (push p out) = false
-concerns k (wake kind id clock out) = false
+concerns k (wake w out) = false
 concerns k (report id out) = false
 concerns k (takeWhole taken out) = false
 

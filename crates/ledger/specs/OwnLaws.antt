@@ -109,7 +109,7 @@ page-enter k (setup receive store role) l m e = refl
 page-enter k (setup send store role) l m e = e
 page-enter k (packet p out) l m e = page-packet p k (l .book) (m .book) e
 page-enter k (push p out) l m e = e
-page-enter k (wake kind id clock out) l m e = e
+page-enter k (wake w out) l m e = e
 page-enter k (report id out) l m e = e
 page-enter k (takeWhole taken out) l m e = e
 
@@ -120,7 +120,7 @@ other-enter k (setup receive store role) l h = clash refl h
 other-enter k (setup send store role) l h = refl
 other-enter k (packet p out) l h = rw (its-is p (l .book)) (other-page (its p (l .book)) (asked p) k (l .book) h)
 other-enter k (push p out) l h = refl
-other-enter k (wake kind id clock out) l h = refl
+other-enter k (wake w out) l h = refl
 other-enter k (report id out) l h = refl
 other-enter k (takeWhole taken out) l h = refl
 
@@ -136,7 +136,7 @@ keyed-enter (setup receive store role) l y = no-page
 keyed-enter (setup send store role) l y = y
 keyed-enter (packet p out) l y = keyed-packet p (l .book) y
 keyed-enter (push p out) l y = y
-keyed-enter (wake kind id clock out) l y = y
+keyed-enter (wake w out) l y = y
 keyed-enter (report id out) l y = y
 keyed-enter (takeWhole taken out) l y = y
 
@@ -153,7 +153,7 @@ module _ (k : Key) (l m : Ledger) (whole part : List Page) (s : Own k l m whole 
       pick-append _ whole (finished (kind p) o) ∙ (λ i. s .messages i ++ own i)
       ∙ ap (λ (x : Option Page). part ++ finished (kind p) x) (rw e at (s .page))
   own-made-by (push p out) h = clash h refl
-  own-made-by (wake kind id clock out) h = clash h refl
+  own-made-by (wake w out) h = clash h refl
   own-made-by (report id out) h = clash h refl
   own-made-by (takeWhole taken out) h = clash h refl
 
@@ -168,7 +168,7 @@ module _ (k : Key) (l m : Ledger) (whole part : List Page) (s : Own k l m whole 
       ∙ (λ i. s .messages i ++ finished-other (kind p) (asked p) k o (s .keyed (asked p)) h i)
       ∙ append-nil part
   other-made-by (push p out) h = s .messages
-  other-made-by (wake kind id clock out) h = s .messages
+  other-made-by (wake w out) h = s .messages
   other-made-by (report id out) h = s .messages
   other-made-by (takeWhole taken out) h = s .messages
 

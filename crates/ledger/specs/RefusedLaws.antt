@@ -13,7 +13,7 @@ use Rattle.machine.specs.Outcomes.{PacketOutcome, SendOutcome, TakeOutcome}
 use Rattle.machine.specs.Setup.{setupOf}
 use Rattle.machine.specs.Packet.{Packet, packetRow, packetAnswer}
 use Rattle.machine.specs.Push.{Push, pushRow, pushAnswer}
-use Rattle.machine.specs.Wake.{wakeRow, wakeOf}
+use Rattle.machine.specs.Wake.{Wake, wakeRow, wakeAnswer}
 use Rattle.machine.specs.Report.{reportRow, reportOf}
 use Rattle.machine.specs.Take.{takeRow, takeOf}
 use Rattle.ledger.specs.Run.{receive, send, Stores, Call, setup, packet, push, wake, report, takeWhole, answer, after}
@@ -43,15 +43,13 @@ module _ (p : Push) (send out : List ℕ) where
       → pushAnswer p send out ≡ record { number = pushAnswer p send out .number; run = 0; wake = 0; send = send; out = out }
   push-refused h = rw (ne-eqb (refusal (pushRow p send out)) 0 (λ e. h (push-number ∙ e)))
 
-module _ (send : List ℕ) (kind : ℕ) (id : List ℕ) (clock : ℕ) (out : List ℕ) where
-  pub wake-number : wakeOf send kind id clock out .number ≡ refusal (wakeRow kind id send out)
-  unfolding wakeOf
-  wake-number = number-is (λ (o : SendOutcome). o .number) _ _ (refusal (wakeRow kind id send out)) refl refl
+module _ (w : Wake) (send out : List ℕ) where
+  pub wake-number : wakeAnswer w send out .number ≡ refusal (wakeRow w send out)
+  wake-number = number-is (λ (o : SendOutcome). o .number) _ _ (refusal (wakeRow w send out)) refl refl
 
-  pub wake-refused : (wakeOf send kind id clock out .number ≡ 0 → ⊥)
-      → wakeOf send kind id clock out ≡ record { number = wakeOf send kind id clock out .number; run = 0; wake = 0; send = send; out = out }
-  unfolding wakeOf
-  wake-refused h = rw (ne-eqb (refusal (wakeRow kind id send out)) 0 (λ e. h (wake-number ∙ e)))
+  pub wake-refused : (wakeAnswer w send out .number ≡ 0 → ⊥)
+      → wakeAnswer w send out ≡ record { number = wakeAnswer w send out .number; run = 0; wake = 0; send = send; out = out }
+  wake-refused h = rw (ne-eqb (refusal (wakeRow w send out)) 0 (λ e. h (wake-number ∙ e)))
 
 module _ (send id out : List ℕ) where
   pub report-refused : (reportOf send id out .number ≡ 0 → ⊥) → reportOf send id out ≡ record { number = reportOf send id out .number; run = 0; wake = 0; out = out }
@@ -75,6 +73,6 @@ refused-stays (setup receive store role) s h = rw (ne-eqb (setupOf store role .n
 refused-stays (setup send store role) s h = rw (ne-eqb (setupOf store role .number) 0 h)
 refused-stays (packet p out) s h = let e = packet-refused p (s .recv) (s .send) out h in λ i. record { recv = e i .recv; send = e i .send }
 refused-stays (push p out) s h = λ i. record { recv = s .recv; send = push-refused p (s .send) out h i .send }
-refused-stays (wake kind id clock out) s h = λ i. record { recv = s .recv; send = wake-refused (s .send) kind id clock out h i .send }
+refused-stays (wake w out) s h = λ i. record { recv = s .recv; send = wake-refused w (s .send) out h i .send }
 refused-stays (report id out) s h = refl
 refused-stays (takeWhole taken out) s h = λ i. record { recv = take-refused (s .recv) taken out h i .recv; send = s .send }

@@ -11,7 +11,7 @@ use Rattle.machine.specs.Typed.{TypedPacket, TypedPush, TypedClock}
 use Rattle.machine.specs.Setup.{setupOf}
 use Rattle.machine.specs.Packet.{Packet, packetAnswer}
 use Rattle.machine.specs.Push.{Push, pushAnswer}
-use Rattle.machine.specs.Wake.{wakeOf}
+use Rattle.machine.specs.Wake.{Wake, wakeAnswer}
 use Rattle.machine.specs.Report.{reportOf}
 use Rattle.machine.specs.Take.{takeOf}
 
@@ -28,7 +28,7 @@ pub data Call : Type 0 where
   setup : (which : Which) (store : List ℕ) (role : ℕ) → Call
   packet : (p : Packet) (out : List ℕ) → Call
   push : (p : Push) (out : List ℕ) → Call
-  wake : (kind : ℕ) (id : List ℕ) (clock : ℕ) (out : List ℕ) → Call
+  wake : (w : Wake) (out : List ℕ) → Call
   report : (id out : List ℕ) → Call
   takeWhole : (taken out : List ℕ) → Call
 
@@ -37,7 +37,7 @@ unfoldable pub answer : Call → Stores → ℕ
 answer (setup which store role) s = setupOf store role .number
 answer (packet p out) s = packetAnswer p (s .recv) (s .send) out .number
 answer (push p out) s = pushAnswer p (s .send) out .number
-answer (wake kind id clock out) s = wakeOf (s .send) kind id clock out .number
+answer (wake w out) s = wakeAnswer w (s .send) out .number
 answer (report id out) s = reportOf (s .send) id out .number
 answer (takeWhole taken out) s = takeOf (s .recv) taken out .number
 
@@ -47,7 +47,7 @@ after (setup receive store role) s = record { recv = cond (eqb (setupOf store ro
 after (setup send store role) s = record { recv = s .recv; send = cond (eqb (setupOf store role .number) 0) (setupOf store role .store) (s .send) }
 after (packet p out) s = record { recv = packetAnswer p (s .recv) (s .send) out .recv; send = packetAnswer p (s .recv) (s .send) out .send }
 after (push p out) s = record { recv = s .recv; send = pushAnswer p (s .send) out .send }
-after (wake kind id clock out) s = record { recv = s .recv; send = wakeOf (s .send) kind id clock out .send }
+after (wake w out) s = record { recv = s .recv; send = wakeAnswer w (s .send) out .send }
 after (report id out) s = s
 after (takeWhole taken out) s = record { recv = takeOf (s .recv) taken out .recv; send = s .send }
 
@@ -71,6 +71,6 @@ abbrev pub Typed : Call → Type 0
 Typed (setup which store role) = Unit {0}
 Typed (packet p out) = TypedPacket p
 Typed (push p out) = TypedPush p
-Typed (wake kind id clock out) = TypedClock clock
+Typed (wake w out) = TypedClock (w .clock)
 Typed (report id out) = Unit {0}
 Typed (takeWhole taken out) = Unit {0}

@@ -25,7 +25,7 @@ use Rattle.machine.specs.Receive.{found, dropAt}
 use Rattle.machine.specs.Send.{changeAt, pushStep, initOut, dueOut, wakeOut, woken, deadlineOut, deadlineAt}
 use Rattle.machine.specs.Packet.{Packet, kind, kindRow, sendStep, kindWake}
 use Rattle.machine.specs.Push.{Push, pushLabel, pushRoom, pushTests}
-use Rattle.machine.specs.Wake.{sendWake, deadlineWake, wakeRun, wakeStep}
+use Rattle.machine.specs.Wake.{sendWake, deadlineWake, waking, wakeRun, wakeStep}
 use Rattle.machine.specs.Report.{reported}
 use Rattle.machine.specs.Samples.{id, frame, address, from}
 
@@ -67,7 +67,7 @@ hears f s =
 unfoldable pub wakes : ℕ → ℕ → Store → Told
 wakes kind clock s =
     let o : Option Rec = found id (s .held) in
-    told (refusal (heldRow o)) 0 (wakeRun kind clock o) (wakeStep kind id clock s) s
+    told (refusal (heldRow o)) 0 (wakeRun (waking kind id clock) o) (wakeStep (waking kind id clock) s) s
 
 unfoldable pub reports : Store → List ℕ
 reports s = reported (found id (s .held))

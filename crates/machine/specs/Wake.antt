@@ -21,6 +21,12 @@ sendWake = 1
 abbrev pub deadlineWake : ℕ
 deadlineWake = 2
 
+-- who is woken, how and when
+pub record Wake : Type 0 where
+  pub kind : ℕ
+  pub id : List ℕ
+  pub clock : ℕ
+
 -- row 2: a wake's run buffer, by its kind
 abbrev pub sendWakeRoom : ℕ
 sendWakeRoom = 34250
@@ -29,26 +35,39 @@ abbrev pub deadlineWakeRoom : ℕ
 deadlineWakeRoom = 46
 
 abbrev pub wakeRoom : ℕ → ℕ
-wakeRoom wake = cond (eqb wake sendWake) sendWakeRoom deadlineWakeRoom
+wakeRoom kind = cond (eqb kind sendWake) sendWakeRoom deadlineWakeRoom
 
--- wake 25, 20, 2, 8
-unfoldable pub wakeRow : ℕ → List ℕ → List ℕ → List ℕ → Refusals
-wakeRow wake id send out =
-    (sound roleSend send, unsoundStore)
-    ∷ (eqb wake sendWake || eqb wake deadlineWake, noWork)
-    ∷ (leb (wakeRoom wake) (length out), shortOutput)
-    ∷ heldRow (found id (decode send .held))
+-- wake 20, 2, 8, on a store and with room for a run
+abbrev pub wakeTests : Wake → Store → ℕ → Refusals
+wakeTests w s room =
+    (eqb (w .kind) sendWake || eqb (w .kind) deadlineWake, noWork)
+    ∷ (leb (wakeRoom (w .kind)) room, shortOutput)
+    ∷ heldRow (found (w .id) (s .held))
 
--- what a wake sends
-unfoldable pub wakeRun : ℕ → ℕ → Option Rec → List ℕ
-wakeRun wake clock none = []
-wakeRun wake clock (some r) = cond (eqb wake sendWake) (wakeOut clock r) (deadlineOut r)
+-- .. behind 25
+unfoldable pub wakeRow : Wake → List ℕ → List ℕ → Refusals
+wakeRow w send out = (sound roleSend send, unsoundStore) ∷ wakeTests w (decode send) (length out)
 
--- what a wake makes of the send store
-unfoldable pub wakeStep : ℕ → List ℕ → ℕ → Store → Store
-wakeStep wake id clock s = cond (eqb wake sendWake) (change (woken clock) id s) (deadlineAt (found id (s .held)) s)
+-- what is sent of the record that was found
+unfoldable pub wakeRun : Wake → Option Rec → List ℕ
+wakeRun w none = []
+wakeRun w (some r) = cond (eqb (w .kind) sendWake) (wakeOut (w .clock) r) (deadlineOut r)
+
+-- what becomes of the send store
+unfoldable pub wakeStep : Wake → Store → Store
+wakeStep w s = cond (eqb (w .kind) sendWake) (change (woken (w .clock)) (w .id) s) (deadlineAt (found (w .id) (s .held)) s)
+
+-- what a wake leaves where its row answers n
+abbrev pub wakeAt : ℕ → Wake → List ℕ → List ℕ → SendOutcome
+wakeAt n w send out = sendAt n (wakeStep w (decode send)) (wakeRun w (found (w .id) (decode send .held))) send out
+
+-- the wake call, with who is woken, how and when as one value
+abbrev pub wakeAnswer : Wake → List ℕ → List ℕ → SendOutcome
+wakeAnswer w send out = wakeAt (refusal (wakeRow w send out)) w send out
 
 -- wake, as the code has its parameters
+abbrev pub waking : ℕ → List ℕ → ℕ → Wake
+waking kind id clock = record { kind = kind; id = id; clock = clock }
+
 unfoldable pub wakeOf : List ℕ → ℕ → List ℕ → ℕ → List ℕ → SendOutcome
-wakeOf send wake id clock out =
-    sendAt (refusal (wakeRow wake id send out)) (wakeStep wake id clock (decode send)) (wakeRun wake clock (found id (decode send .held))) send out
+wakeOf send kind id clock out = wakeAnswer (waking kind id clock) send out

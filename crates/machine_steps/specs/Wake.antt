@@ -2,7 +2,6 @@
 use Prim.Native.Nat.{ℕ}
 use native.Mathlib.Omega.{arith}
 use mathlib.Core.Path.{_≡_, refl}
-use mathlib.Core.List.{List}
 use mathlib.Core.Option.{Option, none, some}
 use lib.Dec.{eqb}
 use Rattle.octets.specs.BoolsLaws.{cases}
@@ -11,7 +10,7 @@ use Rattle.machine.specs.Values.{Rec, Store, Key}
 use Rattle.machine.specs.Valid.{Valid}
 use Rattle.machine.specs.Receive.{found}
 use Rattle.machine.specs.Send.{woken, stamped, unsettled, changeAt, change, deadlineAt}
-use Rattle.machine.specs.Wake.{sendWake, wakeStep}
+use Rattle.machine.specs.Wake.{Wake, sendWake, wakeStep}
 use Rattle.machine.specs.Typed.{TypedClock}
 use Rattle.machine_steps.specs.Change.{changed}
 use Rattle.machine_steps.specs.Drop.{drop-at}
@@ -47,9 +46,9 @@ deadline-valid k (some r) s e v =
     (λ b. rw b (restated-valid k r s e v stateAborted 1 (omega arith) (omega arith)))
     (λ b. rw b (restated-valid k r s e v (r .sending .state) 1 (held-small k r s e v .0) (omega arith)))))
 
-pub wake-valid : (wake : ℕ) (id : List ℕ) (clock : ℕ) (s : Store) → TypedClock clock → Valid roleSend s → Valid roleSend (wakeStep wake id clock s)
+pub wake-valid : (w : Wake) (s : Store) → TypedClock (w .clock) → Valid roleSend s → Valid roleSend (wakeStep w s)
 unfolding wakeStep
-wake-valid wake id clock s t v =
-    cases (eqb wake sendWake)
-    (λ e. rw e (woken-valid clock id s t v))
-    (λ e. rw e (deadline-valid id (found id (s .held)) s refl v))
+wake-valid w s t v =
+    cases (eqb (w .kind) sendWake)
+    (λ e. rw e (woken-valid (w .clock) (w .id) s t v))
+    (λ e. rw e (deadline-valid (w .id) (found (w .id) (s .held)) s refl v))

@@ -20,14 +20,11 @@ ghost use lib.ListN.{length};
 ghost use lib.Dec.{eqb};
 ghost use Rattle.machine.specs.Codes.{roleSend};
 ghost use Rattle.machine.specs.Layout.{decode};
-ghost use Rattle.machine.specs.Receive.{found};
 ghost use Rattle.machine.specs.Refusals.{refusal};
 ghost use Rattle.machine.specs.Send.{change, progressOut, wakeOut, woken};
-ghost use Rattle.machine.specs.Outcomes.{sendAt};
-ghost use Rattle.machine.specs.Wake.{sendWake, deadlineWake, sendWakeRoom, wakeRoom, wakeRun, wakeStep};
+ghost use Rattle.machine.specs.Wake.{sendWake, deadlineWake, sendWakeRoom, wakeRoom, waking, wakeTests, wakeRun, wakeStep, wakeAt};
 ghost use Rattle.records.specs.HeldAt.{recIn, keyIn, HeldAt, Sends};
 ghost use Rattle.outbox.specs.Leaves.{Here};
-ghost use Rattle.outbox.specs.Rows.{wakeTests};
 ghost use Rattle.outbox.specs.Sending.{Wakes, stampedDue};
 
 // The kinds of a wake.
@@ -102,8 +99,9 @@ fn wake_record(send: &mut [u8], kind: u64, link: usize, clock: u64, run: &mut [u
     requires { ⌜ Here (now send) link × (wakeRoom kind ≤ length (now run)) ⌝ }
     ensures { λ r.
         let b = now (send .entry) in
-        let s = wakeStep kind (keyIn b link) clock (decode b) in
-        let sent = wakeRun kind clock (some (recIn b link)) in
+        let w = waking kind (keyIn b link) clock in
+        let s = wakeStep w (decode b) in
+        let sent = wakeRun w (some (recIn b link)) in
         ⌜ Wakes s sent (now (run .entry)) r (now (send .exit)) (now (run .exit)) ⌝ }
 {
     if kind == SEND {
@@ -117,10 +115,8 @@ pub fn wake(send: &mut [u8], kind: u64, id: &[u8], clock: u64, run: &mut [u8]) -
     requires { ⌜ Sends (now send) ⌝ }
     ensures { λ r.
         let b = now (send .entry) in
-        let k = now (id .entry) in
         let out = now (run .entry) in
-        let s = decode b in
-        let o = found k (s .held) in
+        let w = waking kind (now (id .entry)) clock in
         ⌜ record {
           number = r .number;
           run = r .run;
@@ -128,7 +124,7 @@ pub fn wake(send: &mut [u8], kind: u64, id: &[u8], clock: u64, run: &mut [u8]) -
           send = now (send .exit);
           out = now (run .exit);
         }
-        ≡ sendAt (refusal (wakeTests kind out o)) (wakeStep kind k clock s) (wakeRun kind clock o) b out ⌝ }
+        ≡ wakeAt (refusal (wakeTests w (decode b) (length out))) w b out ⌝ }
 {
     if !is_kind(kind) {
         return answer::refuse(answer::NO_WORK);

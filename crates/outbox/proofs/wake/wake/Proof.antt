@@ -2,23 +2,22 @@
 use Prim.Native.Nat.{ℕ}
 use native.Mathlib.Omega.{arith}
 use mathlib.Core.Path.{_≡_, sym, _∙_}
-use lib.ListN.{drop}
+use lib.ListN.{length, drop}
 use borrow.Author.Tests.{le-leb, lt-leb, not-true, not-false}
 use Rattle.machine.specs.Codes.{roleSend}
 use Rattle.machine.specs.Layout.{decode}
-use Rattle.machine.specs.Receive.{found}
 use Rattle.machine.specs.Refusals.{Refusals, refusal}
+use Rattle.machine.specs.Wake.{waking, wakeTests}
 use Rattle.records.specs.MetLaws.{found-some}
 use Rattle.records.specs.RefuseLaws.{next, stop, clear}
 use Rattle.records.specs.SearchLaws.{Search, ended, here, own-key, none-met, asks-met, number-is}
 use Rattle.outbox.specs.HereLaws as leaves
-use Rattle.outbox.specs.Rows.{wakeTests}
 use borrow.Author.Needs.{needs}
 use Rattle.outbox.proofs.wake.wake.Statement.{statement}
 use Rattle.outbox.proofs.wake.wake.Tie as tie
 
 abbrev tests : tie.Start → Refusals
-tests s = let a = s .args in wakeTests (a .kind) (a .run .now) (found (a .id .now) (decode (a .send .now) .held))
+tests s = let a = s .args in wakeTests (waking (a .kind) (a .id .now) (a .clock)) (decode (a .send .now)) (length (a .run .now))
 
 abbrev row : tie.Start → ℕ
 row s = refusal (tests s)

@@ -131,7 +131,7 @@ def reached(found):
     return done, enums
 
 
-ORDER = ["octets", "blake3", "packet", "topic", "address", "machine", "ledger"]
+ORDER = ["octets", "blake3", "packet", "topic", "calendar", "address", "machine", "ledger"]
 
 
 def page(found, done, enums):

@@ -1,0 +1,5 @@
+pub mod Days
+pub mod Calendar
+pub mod Asked
+pub mod Worked
+pub mod WorkedLaws

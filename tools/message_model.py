@@ -1,6 +1,6 @@
 #!/usr/bin/env python3
 """What crates/transfer and crates/message_values must write, computed by a model of the protocol (docs/PROTOCOL.md) that shares no
-code with the library: dictionaries and lists, no byte stores. Sums come from the b3sum program (Debian's package b3sum) where it is
+code with the library: dictionaries and lists, no byte stores; calendars are those of tools/calendar_model.py. Sums come from the b3sum program (Debian's package b3sum) where it is
 installed, else from the short BLAKE3 below; `tools/message_model.py vectors crates/blake3_vectors/data/vectors.txt` checks both on
 the published vectors.
 Use: tools/message_model.py transfer > crates/transfer/stdout, and the same with message_values."""
@@ -9,6 +9,10 @@ import shutil
 import struct
 import subprocess
 import sys
+
+from calendar_model import daily, hours, weekly
+
+ALWAYS = daily(0, 1440, 720)  # open all the time
 
 # ---- sums
 
@@ -291,16 +295,20 @@ def push(send, key, reply, source, to, topic, data, created, tries, room=310):
     return 0, [(source, to, init_packet(record))], 0
 
 
-def wake(send, kind, key, clock, room=34250):
+def wake(send, kind, key, clock, calendar=ALWAYS, unix_ms=0, room=34250):
     if not sound(send, 2):
         return 25, [], 0
     if kind not in (1, 2):
         return 20, [], 0
+    if kind == 1 and hours(calendar, unix_ms) == "M":
+        return 26, [], 0
     if room < (34250 if kind == 1 else 46):
         return 2, [], 0
     record = send["held"].get(key)
     if not record:
         return 8, [], 0
+    if kind == 1 and hours(calendar, unix_ms) == "S":
+        return 0, [], 0
     packets = due(record, clock) if kind == 1 else deadline(send, record)
     return 0, [(record["source"], record["destination"], p) for p in packets], 0
 
@@ -516,8 +524,8 @@ class Bench:
     def push(self, what, n, topic, data, created=0, tries=0, room=310):
         self.line(what, lambda: push(self.send, keyed(n), 0, FAR, NEAR, topic, data, created, tries, room))
 
-    def wake(self, what, kind, n, room=34250):
-        self.line(what, lambda: wake(self.send, kind, keyed(n), 1000, room))
+    def wake(self, what, kind, n, **others):
+        self.line(what, lambda: wake(self.send, kind, keyed(n), 1000, **others))
 
     def report(self, what, n, room=44):
         self.line(what, lambda: (report(self.send, keyed(n), room)[0], [], 0))
@@ -556,7 +564,7 @@ def rooms():
         b.push(f"push, run of {room}", 1, b"t", b"x", room=room)
     b = Bench(True)
     for kind, room in ((1, 34249), (1, 34250), (2, 45), (2, 46)):
-        b.wake(f"wake {kind}, run of {room}", kind, 1, room)
+        b.wake(f"wake {kind}, run of {room}", kind, 1, room=room)
     b = Bench(True)
     for room in (43, 44, 60):
         b.report(f"report of {room}", 1, room)
@@ -578,6 +586,7 @@ def stores():
         b.packet("  packet", frame(1, INIT, 1))
         b.push("  push", 1, b"t", b"x")
         b.wake("  wake 1", 1, 1)
+        b.wake("  wake 1, no calendar", 1, 1, calendar=b"")
         b.wake("  wake 2", 2, 1)
         b.report("  report", 1)
         b.take("  take")
@@ -613,6 +622,28 @@ def sends():
     for what, kind, n in (("0", 0, 1), ("3", 3, 1), ("1 of an unknown id", 1, 2), ("2 of an unknown id", 2, 2), ("1, state 0", 1, 1),
                           ("2, the first", 2, 1), ("1, timed out", 1, 1), ("2, the second", 2, 1), ("2, the third", 2, 1)):
         b.wake("wake " + what, kind, n)
+
+
+def sending_hours():
+    ten, hour = 36_000_000, 3_600_000  # of Thursday 1 January 1970
+    thursdays = weekly(3, 600, 660, 720)
+    b = Bench(True)
+    for what, kind, n, calendar, room in (
+            ("wake 1, no calendar", 1, 1, b"", 34250), ("wake 1, calendar of 30", 1, 1, thursdays[:30], 34250), ("wake 0, no calendar", 0, 1, b"", 34250),
+            ("wake 1, no calendar, run of 34249", 1, 1, b"", 34249), ("wake 1, no calendar, unknown id", 1, 2, b"", 34250)):
+        b.wake(what, kind, n, calendar=calendar, unix_ms=ten, room=room)
+    b.wake("wake 1, shut, run of 34249", 1, 1, calendar=thursdays, room=34249)
+    b.wake("wake 1, shut, unknown id", 1, 2, calendar=thursdays)
+    b.wake("wake 2, no calendar, run of 45", 2, 1, calendar=b"", room=45)
+    b.wake("wake 2, no calendar, unknown id", 2, 2, calendar=b"")
+    b.wake("wake 2, no calendar", 2, 1, calendar=b"")
+    b = Bench(True)
+    for what, ms in (("before 10", ten - 1), ("from 11 on", ten + hour), ("on Friday", ten + 24 * hour), ("until 11", ten + hour - 1)):
+        b.wake("wake 1 " + what, 1, 1, calendar=thursdays, unix_ms=ms)
+    Bench(True).wake("wake 1 at 10", 1, 1, calendar=thursdays, unix_ms=ten)
+    b = Bench(True)
+    b.wake("wake 1 at 2^64 - 1", 1, 1, unix_ms=2 ** 64 - 1)
+    b.wake("wake 2 from 11 on", 2, 1, calendar=thursdays, unix_ms=ten + hour)
 
 
 def inits():
@@ -723,7 +754,7 @@ def message_values():
     values()
     flags("flags, fresh stores:", False)
     flags("flags, arriving, and leaving in state 1:", True)
-    for group in (rooms, stores, sends, inits, repeats, chunks, dones, acks):
+    for group in (rooms, stores, sends, sending_hours, inits, repeats, chunks, dones, acks):
         group()
 
 

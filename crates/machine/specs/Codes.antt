@@ -80,6 +80,9 @@ badClock = 24
 abbrev pub unsoundStore : ℕ
 unsoundStore = 25
 
+abbrev pub badCalendar : ℕ
+badCalendar = 26
+
 -- ---- marks, roles, kinds, states
 
 -- a number that means yes or no is yes when it is not 0

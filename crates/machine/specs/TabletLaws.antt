@@ -1,33 +1,58 @@
 -- A worked run of the tablet by computation, call by call: what is answered, what is put out, what the store becomes, and what a report says.
 --   A survey of 1,550 bytes is pushed, its init acknowledged; a wake sends both pieces; one is acknowledged, and a wake at 1,100 ms sends the other again;
 --   when both are acknowledged the wake sends the done; the done is acknowledged and the survey read. Sums stay as they are: they are not computed.
---   In another run the deadline passes twice.
+--   In another run the deadline passes twice; in a third the tablet waits for opening hours.
 use Prim.Native.Nat.{ℕ, _+_}
 use mathlib.Core.Path.{_≡_, refl}
 use mathlib.Core.Bool.{false, cond}
 use mathlib.Core.List.{List, [], _∷_, _++_}
-use mathlib.Core.Option.{Option}
 use lib.ListN.{replicate}
 use lib.Dec.{eqb}
 use Rattle.octets.specs.Octets.{part, be, num, capacity, same}
 use Rattle.blake3.specs.Tree.{blake3}
 use Rattle.packet.specs.Frame.{initFlag, chunkFlag, doneFlag, readFlag, ackFlag, kindOf}
 use Rattle.packet.specs.Outgoing.{entry, header, initPacket, chunkPacket, donePacket, abortedPacket}
+use Rattle.calendar.specs.Days.{times, counted}
+use Rattle.calendar.specs.Calendar.{every, wellFormed, isOpen}
 use Rattle.machine.specs.Codes.{roleReceive, roleSend, stateInit, stateInProgress, stateReceived, stateRead, stateAborted, pieceStarted}
-use Rattle.machine.specs.Codes.{pieceSent, pieceAcked, wrongState, noSuchPiece, unknownId}
+use Rattle.machine.specs.Codes.{pieceSent, pieceAcked, wrongState, noSuchPiece, unknownId, shortOutput, noWork, badCalendar}
 use Rattle.machine.specs.Values.{Cell, Rec, Store, sameKey}
 use Rattle.machine.specs.Counting.{rise}
 use Rattle.machine.specs.Sound.{fresh}
 use Rattle.machine.specs.Find.{find, swap, without}
-use Rattle.machine.specs.Refusals.{refusal, heldRow}
+use Rattle.machine.specs.Refusals.{refusal}
 use Rattle.machine.specs.Pieces.{cutPieces, joined}
 use Rattle.machine.specs.Receive.{found, dropAt}
 use Rattle.machine.specs.Send.{changeAt, pushStep, initOut, dueOut, wakeOut, woken, deadlineOut, deadlineAt}
 use Rattle.machine.specs.Packet.{Packet, kind, kindRow, sendStep, kindWake}
 use Rattle.machine.specs.Push.{Push, pushLabel, pushRoom, pushTests}
-use Rattle.machine.specs.Wake.{sendWake, deadlineWake, waking, wakeRun, wakeStep}
+use Rattle.machine.specs.Wake.{Wake, sendWake, deadlineWake, waking, wakeRoom, wakeTests, wakeRun, wakeStep}
 use Rattle.machine.specs.Report.{reported}
 use Rattle.machine.specs.Samples.{id, frame, address, from}
+
+-- ---- calendars
+
+-- windows from Monday on, then UTC and no closed date
+unfoldable pub hours : List ℕ → List ℕ
+hours windows = windows ++ be 2 720 ++ (0 ∷ [])
+
+-- a window, and a day without one
+abbrev pub window : ℕ → ℕ → List ℕ
+window opens closes = be 2 opens ++ be 2 closes
+
+abbrev pub shut : List ℕ
+shut = window 0 0
+
+abbrev pub allDay : List ℕ
+allDay = window 0 1440
+
+-- open all the time
+unfoldable pub always : List ℕ
+always = hours (allDay ++ allDay ++ allDay ++ allDay ++ allDay ++ allDay ++ allDay)
+
+-- open on Thursdays from 10 to 11
+unfoldable pub thursdays : List ℕ
+thursdays = hours (shut ++ shut ++ shut ++ window 600 660 ++ shut ++ shut ++ shut)
 
 -- ---- what it hears and does
 
@@ -64,10 +89,19 @@ hears f s =
     let p : Packet = from f in
     told (refusal (kindRow (kind p) p (fresh roleReceive 1) s)) (kindWake (kind p)) [] (sendStep (kind p) p s) s
 
+-- a wake with room for a run, a calendar and a time
+unfoldable pub wakes-with : ℕ → List ℕ → ℕ → ℕ → ℕ → Store → Told
+wakes-with room calendar unix kind clock s =
+    let w : Wake = waking kind id clock calendar unix in
+    told (refusal (wakeTests w s room)) 0 (wakeRun w (found id (s .held))) (wakeStep w s) s
+
+-- .. with room enough
+unfoldable pub wakes-at : List ℕ → ℕ → ℕ → ℕ → Store → Told
+wakes-at calendar unix kind clock s = wakes-with (wakeRoom kind) calendar unix kind clock s
+
+-- .. and always within hours
 unfoldable pub wakes : ℕ → ℕ → Store → Told
-wakes kind clock s =
-    let o : Option Rec = found id (s .held) in
-    told (refusal (heldRow o)) 0 (wakeRun (waking kind id clock) o) (wakeStep (waking kind id clock) s) s
+wakes kind clock s = wakes-at always 0 kind clock s
 
 unfoldable pub reports : Store → List ℕ
 reports s = reported (found id (s .held))
@@ -148,7 +182,8 @@ pub tablet-starts : (pushes survey (fresh roleSend 3) ≡ answers 0 (sends (init
     × (reports (pushed stateInit) ≡ says stateInit 0 0 0) × (hears (ackChunk 0) (pushed stateInit) ≡ refuses wrongState (pushed stateInit))
     × (hears ackInit (pushed stateInit) ≡ answers 1 [] (pushed stateInProgress)) × (hears ackInit (pushed stateInProgress) ≡ refuses wrongState (pushed stateInProgress))
 unfolding office topic piece0 piece1 survey id frame address ackInit ackChunk pushes hears wakes reports part be num same header kindOf sameKey
-    rise find swap without refusal cutPieces changeAt pushStep wakeOut woken kindRow sendStep kindWake wakeRun wakeStep reported capacity
+    rise find swap without refusal cutPieces changeAt pushStep wakeOut woken kindRow sendStep kindWake wakeRun wakeStep wakes-with wakes-at hours
+    always wellFormed isOpen every counted times reported capacity
 tablet-starts = (refl, refl, refl, refl, refl, refl)
 
 -- wakes: both pieces; neither again after 99 ms; the one that is not acknowledged again after 100
@@ -159,7 +194,8 @@ pub tablet-sends : (reports (pushed stateInProgress) ≡ says stateInProgress 2 
     × (wakes sendWake 1100 (partly 1000) ≡ answers 0 (sends (chunkPacket id 0 0 piece0) ++ []) (partly 1100))
     × (hears (ackChunk 0) (partly 1100) ≡ answers 1 [] (acked stateInProgress))
 unfolding office topic piece0 piece1 id frame address ackChunk hears wakes reports part be num same header kindOf sameKey rise find swap without
-    refusal changeAt dueOut wakeOut woken kindRow sendStep kindWake wakeRun wakeStep reported joined entry chunkPacket
+    refusal changeAt dueOut wakeOut woken kindRow sendStep kindWake wakeRun wakeStep wakes-with wakes-at hours always wellFormed isOpen every
+    counted times reported joined entry chunkPacket
 tablet-sends = (refl, refl, refl, refl, refl, refl, refl, refl, refl)
 
 -- the done, its acknowledgement, and the read: the state is Received when the done is acknowledged, not when it is sent
@@ -168,7 +204,8 @@ pub tablet-ends : (wakes sendWake 1200 (acked stateInProgress) ≡ answers 0 (se
     × (wakes sendWake 1300 (acked stateReceived) ≡ answers 0 [] (acked stateReceived)) × (hears read (acked stateReceived) ≡ answers 0 [] (acked stateRead))
     × (reports (acked stateRead) ≡ says stateRead 0 0 0)
 unfolding office topic piece0 piece1 id frame address ackDone read hears wakes reports part be num same header kindOf sameKey rise find swap
-    without refusal changeAt dueOut wakeOut woken kindRow sendStep kindWake wakeRun wakeStep reported joined
+    without refusal changeAt dueOut wakeOut woken kindRow sendStep kindWake wakeRun wakeStep wakes-with wakes-at hours always wellFormed isOpen
+    every counted times reported joined
 tablet-ends = (refl, refl, refl, refl, refl, refl)
 
 -- the deadline: Aborted, with an aborted packet, and nothing is sent any more; then the record and its cells are free
@@ -178,5 +215,28 @@ pub tablet-aborts : (wakes deadlineWake 9000 sent ≡ answers 0 (sends (abortedP
     × (wakes deadlineWake 9000 (holding stateAborted 1 (cell 0 piece0 1000 pieceSent) (cell 1 piece1 1000 pieceSent)) ≡ answers 0 [] (fresh roleSend 3))
     × (wakes deadlineWake 9000 (fresh roleSend 3) ≡ refuses unknownId (fresh roleSend 3))
 unfolding office topic piece0 piece1 id frame address hears wakes part be num same header kindOf sameKey rise find swap without refusal changeAt
-    dropAt wakeOut woken deadlineOut deadlineAt wakeRun wakeStep
+    dropAt wakeOut woken deadlineOut deadlineAt wakeRun wakeStep wakes-with wakes-at hours always wellFormed isOpen every counted times
 tablet-aborts = (refl, refl, refl, refl)
+
+-- hours, 10 to 11 on Thursdays: before 10 and from 11 on a wake sends and stamps nothing and answers 0, and the deadline passes all the same
+pub tablet-waits : (wakes-at thursdays 35999999 sendWake 1000 (pushed stateInProgress) ≡ answers 0 [] (pushed stateInProgress))
+    × (wakes-at thursdays 36000000 sendWake 1000 (pushed stateInProgress) ≡ wakes sendWake 1000 (pushed stateInProgress))
+    × (wakes-at thursdays 39599999 sendWake 1000 (pushed stateInProgress) ≡ wakes sendWake 1000 (pushed stateInProgress))
+    × (wakes-at thursdays 39600000 sendWake 1000 (pushed stateInProgress) ≡ answers 0 [] (pushed stateInProgress))
+    × (wakes-at thursdays 39600000 sendWake 1000 (pushed stateInit) ≡ answers 0 [] (pushed stateInit))
+    × (wakes-at thursdays 39600000 sendWake 1000 (acked stateInProgress) ≡ answers 0 [] (acked stateInProgress))
+    × (wakes-at thursdays 39600000 deadlineWake 9000 sent ≡ wakes deadlineWake 9000 sent)
+unfolding office topic piece0 piece1 id frame address part be num same header kindOf sameKey rise find swap without refusal changeAt dueOut
+    wakeOut woken deadlineOut deadlineAt wakeRun wakeStep wakes-with wakes-at wakes hours always thursdays wellFormed isOpen every counted times
+tablet-waits = (refl, refl, refl, refl, refl, refl, refl)
+
+-- a calendar that is none, to a send wake alone: behind the kind, before the room and the id; outside hours these two are asked all the same
+pub tablet-calendars : (wakes-at [] 36000000 sendWake 1000 sent ≡ refuses badCalendar sent) × (wakes-at [] 36000000 3 1000 sent ≡ refuses noWork sent)
+    × (wakes-with 34249 [] 36000000 sendWake 1000 sent ≡ refuses badCalendar sent)
+    × (wakes-at [] 36000000 sendWake 1000 (fresh roleSend 3) ≡ refuses badCalendar (fresh roleSend 3))
+    × (wakes-with 34249 thursdays 0 sendWake 1000 sent ≡ refuses shortOutput sent)
+    × (wakes-at thursdays 0 sendWake 1000 (fresh roleSend 3) ≡ refuses unknownId (fresh roleSend 3))
+    × (wakes-at [] 36000000 deadlineWake 9000 sent ≡ wakes deadlineWake 9000 sent)
+unfolding office topic piece0 piece1 id frame address part be num same header kindOf sameKey rise find swap without refusal changeAt dueOut
+    wakeOut woken deadlineOut deadlineAt wakeRun wakeStep wakes-with wakes-at wakes hours always thursdays wellFormed isOpen every counted times
+tablet-calendars = (refl, refl, refl, refl, refl, refl, refl)

@@ -1,11 +1,12 @@
 -- Wake, of both kinds, as a function from its bytes and numbers to its outcome: PROTOCOL, "Calls and answers" and "The tablet".
 use Prim.Native.Nat.{ℕ}
-use mathlib.Core.Bool.{cond, _||_}
+use mathlib.Core.Bool.{Bool, cond, not, _||_}
 use mathlib.Core.List.{List, [], _∷_}
 use mathlib.Core.Option.{Option, none, some}
 use lib.ListN.{length}
 use lib.Dec.{eqb, leb}
-use Rattle.machine.specs.Codes.{roleSend, shortOutput, noWork, unsoundStore}
+use Rattle.calendar.specs.Calendar.{wellFormed, isOpen}
+use Rattle.machine.specs.Codes.{roleSend, shortOutput, noWork, unsoundStore, badCalendar}
 use Rattle.machine.specs.Values.{Rec, Store}
 use Rattle.machine.specs.Layout.{decode}
 use Rattle.machine.specs.Sound.{sound}
@@ -21,11 +22,24 @@ sendWake = 1
 abbrev pub deadlineWake : ℕ
 deadlineWake = 2
 
--- who is woken, how and when
+-- who is woken, how and when; the calendar and the Unix milliseconds are a send wake's
 pub record Wake : Type 0 where
   pub kind : ℕ
   pub id : List ℕ
   pub clock : ℕ
+  pub calendar : List ℕ
+  pub unix : ℕ
+
+abbrev pub sends : Wake → Bool
+sends w = eqb (w .kind) sendWake
+
+-- row 26: a send wake's calendar; no other wake looks at it
+abbrev pub dated : Wake → Bool
+dated w = not (sends w) || wellFormed (w .calendar)
+
+-- a send wake sends and stamps nothing outside hours
+abbrev pub inHours : Wake → Bool
+inHours w = isOpen (w .calendar) (w .unix)
 
 -- row 2: a wake's run buffer, by its kind
 abbrev pub sendWakeRoom : ℕ
@@ -37,10 +51,11 @@ deadlineWakeRoom = 46
 abbrev pub wakeRoom : ℕ → ℕ
 wakeRoom kind = cond (eqb kind sendWake) sendWakeRoom deadlineWakeRoom
 
--- wake 20, 2, 8, on a store and with room for a run
+-- wake 20, 26, 2, 8, on a store and with room for a run
 abbrev pub wakeTests : Wake → Store → ℕ → Refusals
 wakeTests w s room =
-    (eqb (w .kind) sendWake || eqb (w .kind) deadlineWake, noWork)
+    (sends w || eqb (w .kind) deadlineWake, noWork)
+    ∷ (dated w, badCalendar)
     ∷ (leb (wakeRoom (w .kind)) room, shortOutput)
     ∷ heldRow (found (w .id) (s .held))
 
@@ -51,11 +66,12 @@ wakeRow w send out = (sound roleSend send, unsoundStore) ∷ wakeTests w (decode
 -- what is sent of the record that was found
 unfoldable pub wakeRun : Wake → Option Rec → List ℕ
 wakeRun w none = []
-wakeRun w (some r) = cond (eqb (w .kind) sendWake) (wakeOut (w .clock) r) (deadlineOut r)
+wakeRun w (some r) = cond (sends w) (cond (inHours w) (wakeOut (w .clock) r) []) (deadlineOut r)
 
 -- what becomes of the send store
 unfoldable pub wakeStep : Wake → Store → Store
-wakeStep w s = cond (eqb (w .kind) sendWake) (change (woken (w .clock)) (w .id) s) (deadlineAt (found (w .id) (s .held)) s)
+wakeStep w s =
+    cond (sends w) (cond (inHours w) (change (woken (w .clock)) (w .id) s) s) (deadlineAt (found (w .id) (s .held)) s)
 
 -- what a wake leaves where its row answers n
 abbrev pub wakeAt : ℕ → Wake → List ℕ → List ℕ → SendOutcome
@@ -66,8 +82,8 @@ abbrev pub wakeAnswer : Wake → List ℕ → List ℕ → SendOutcome
 wakeAnswer w send out = wakeAt (refusal (wakeRow w send out)) w send out
 
 -- wake, as the code has its parameters
-abbrev pub waking : ℕ → List ℕ → ℕ → Wake
-waking kind id clock = record { kind = kind; id = id; clock = clock }
+abbrev pub waking : ℕ → List ℕ → ℕ → List ℕ → ℕ → Wake
+waking kind id clock calendar unix = record { kind = kind; id = id; clock = clock; calendar = calendar; unix = unix }
 
-unfoldable pub wakeOf : List ℕ → ℕ → List ℕ → ℕ → List ℕ → SendOutcome
-wakeOf send kind id clock out = wakeAnswer (waking kind id clock) send out
+unfoldable pub wakeOf : List ℕ → ℕ → List ℕ → ℕ → List ℕ → ℕ → List ℕ → SendOutcome
+wakeOf send kind id clock calendar unix out = wakeAnswer (waking kind id clock calendar unix) send out

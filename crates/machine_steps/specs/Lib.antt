@@ -20,6 +20,7 @@ pub mod Marks
 pub mod Remarked
 pub mod SendValid
 pub mod Wake
+pub mod Hours
 pub mod Cut
 pub mod CutKept
 pub mod Nth

@@ -10,7 +10,7 @@ use Rattle.machine.specs.Values.{Rec, Store, Key}
 use Rattle.machine.specs.Valid.{Valid}
 use Rattle.machine.specs.Receive.{found}
 use Rattle.machine.specs.Send.{woken, stamped, unsettled, changeAt, change, deadlineAt}
-use Rattle.machine.specs.Wake.{Wake, sendWake, wakeStep}
+use Rattle.machine.specs.Wake.{Wake, sends, inHours, wakeStep}
 use Rattle.machine.specs.Typed.{TypedClock}
 use Rattle.machine_steps.specs.Change.{changed}
 use Rattle.machine_steps.specs.Drop.{drop-at}
@@ -49,6 +49,6 @@ deadline-valid k (some r) s e v =
 pub wake-valid : (w : Wake) (s : Store) → TypedClock (w .clock) → Valid roleSend s → Valid roleSend (wakeStep w s)
 unfolding wakeStep
 wake-valid w s t v =
-    cases (eqb (w .kind) sendWake)
-    (λ e. rw e (woken-valid (w .clock) (w .id) s t v))
+    cases (sends w)
+    (λ e. rw e (cases (inHours w) (λ h. rw h (woken-valid (w .clock) (w .id) s t v)) (λ h. rw h v)))
     (λ e. rw e (deadline-valid (w .id) (found (w .id) (s .held)) s refl v))

@@ -40,9 +40,17 @@ pub fn push(
     outbox::push::push(send, label, topic, bytes, created, try_ms, run)
 }
 
-// A wake of the message with that id: kind 1 sends what is due, kind 2 lets the deadline pass. The clock is
-// in milliseconds.
-pub fn wake(send: &mut [u8], kind: u64, id: &[u8; 8], clock: u64, run: &mut [u8]) -> Answer
+// A wake of the message with that id: kind 1 sends what is due within the calendar's hours, kind 2 lets the
+// deadline pass. The clock is in milliseconds from any moment on, `unix_ms` in those since 1 January 1970, UTC.
+pub fn wake(
+    send: &mut [u8],
+    kind: u64,
+    id: &[u8; 8],
+    clock: u64,
+    calendar: &[u8],
+    unix_ms: u64,
+    run: &mut [u8],
+) -> Answer
     ensures { λ r.
         ⌜ record {
           number = r .number;
@@ -51,12 +59,12 @@ pub fn wake(send: &mut [u8], kind: u64, id: &[u8; 8], clock: u64, run: &mut [u8]
           send = now (send .exit);
           out = now (run .exit);
         }
-        ≡ wakeOf (now (send .entry)) kind (now (id .entry)) clock (now (run .entry)) ⌝ }
+        ≡ wakeOf (now (send .entry)) kind (now (id .entry)) clock (now (calendar .entry)) «unix_ms» (now (run .entry)) ⌝ }
 {
     if !soundness::store::sound(send, head::SEND) {
         return answer::refuse(answer::UNSOUND_STORE);
     }
-    outbox::wake::wake(send, kind, id, clock, run)
+    outbox::wake::wake(send, kind, id, clock, calendar, unix_ms, run)
 }
 
 // The report on the message with that id, into `out`.

@@ -1,6 +1,7 @@
 // The calls, each with a line for what came of it. Stores have 25 cells.
 
 use crate::show;
+use calendar::ALWAYS;
 use rows::answer::Answer;
 
 // The packet call, from 0x11.. to 0x22..
@@ -81,12 +82,25 @@ pub(crate) fn push(
     );
 }
 
-// The wake call.
+// The wake call, within hours.
 pub(crate) fn wake(what: &[u8], send: &mut [u8; 37140], kind: u64, key: u8, run: &mut [u8]) {
+    wake_at(what, send, kind, key, &ALWAYS, 0, run);
+}
+
+// The wake call, with a calendar and a time.
+pub(crate) fn wake_at(
+    what: &[u8],
+    send: &mut [u8; 37140],
+    kind: u64,
+    key: u8,
+    calendar: &[u8],
+    unix_ms: u64,
+    run: &mut [u8],
+) {
     let id = [0, 0, 0, 0, 0, 0, 0, key];
     let old_send = show::copy(send);
     let old_run = show::copy(run);
-    let a = message::wake(send, kind, &id, 1000, run);
+    let a = message::wake(send, kind, &id, 1000, calendar, unix_ms, run);
     show::line(
         what,
         a,

@@ -6,6 +6,7 @@ mod acks;
 mod arrivals;
 mod ask;
 mod flags;
+mod hours;
 mod make;
 mod repeats;
 mod rooms;
@@ -34,6 +35,8 @@ fn main() {
     sends::clocks(&mut recv, &mut send);
     sends::records(&mut recv, &mut send);
     sends::kinds(&mut recv, &mut send);
+    hours::refused(&mut recv, &mut send);
+    hours::edges(&mut recv, &mut send);
     arrivals::inits(&mut recv, &mut send);
     arrivals::records(&mut recv, &mut send);
     repeats::equal(&mut recv, &mut send);

@@ -12,6 +12,7 @@ fn calls(recv: &mut [u8; 37140], send: &mut [u8; 37140]) {
     ask::packet(b"  packet", recv, send, &init, b"\0", 1, &mut run);
     ask::push(b"  push", send, 1, b"t", b"x", 0, 0, &mut run);
     ask::wake(b"  wake 1", send, 1, 1, &mut run);
+    ask::wake_at(b"  wake 1, no calendar", send, 1, 1, b"", 0, &mut run);
     ask::wake(b"  wake 2", send, 2, 1, &mut run);
     ask::report(b"  report", send, 1, &mut out);
     ask::take(b"  take", recv, 0, &mut out, &mut run);

@@ -5,6 +5,8 @@ use crate::done::put_done;
 use crate::due::send_due;
 use crate::init::put_init;
 use crate::record::names_at;
+use calendar::is_open;
+use calendar::well_formed;
 use packet::header;
 use packet::run;
 use records::field;
@@ -13,7 +15,7 @@ use rows::answer::Answer;
 use rows::record::IN_PROGRESS;
 use rows::record::INIT;
 ghost use mathlib.Core.Path.{_≡_};
-ghost use mathlib.Core.Bool.{_||_};
+ghost use mathlib.Core.Bool.{true, not, _||_};
 ghost use mathlib.Core.Option.{some};
 ghost use Prim.Native.Nat.{_≤_};
 ghost use lib.ListN.{length};
@@ -22,7 +24,9 @@ ghost use Rattle.machine.specs.Codes.{roleSend};
 ghost use Rattle.machine.specs.Layout.{decode};
 ghost use Rattle.machine.specs.Refusals.{refusal};
 ghost use Rattle.machine.specs.Send.{change, progressOut, wakeOut, woken};
-ghost use Rattle.machine.specs.Wake.{sendWake, deadlineWake, sendWakeRoom, wakeRoom, waking, wakeTests, wakeRun, wakeStep, wakeAt};
+ghost use Rattle.calendar.specs.Calendar.{wellFormed};
+ghost use Rattle.machine.specs.Wake.{sendWake, deadlineWake, sendWakeRoom, wakeRoom};
+ghost use Rattle.machine.specs.Wake.{waking, dated, wakeTests, wakeRun, wakeStep, wakeAt};
 ghost use Rattle.records.specs.HeldAt.{recIn, keyIn, HeldAt, Sends};
 ghost use Rattle.outbox.specs.Leaves.{Here};
 ghost use Rattle.outbox.specs.Sending.{Wakes, stampedDue};
@@ -84,6 +88,16 @@ fn is_kind(kind: u64) -> bool
     (kind == SEND) | (kind == DEADLINE)
 }
 
+// Row 26: whether a wake of that kind can go by the calendar; only a send wake looks at it.
+fn is_dated(kind: u64, calendar: &[u8]) -> bool
+    ensures { λ r. ⌜ r ≡ (not (eqb kind sendWake) || wellFormed (now (calendar .entry))) ⌝ }
+{
+    if kind == SEND {
+        return well_formed(calendar);
+    }
+    true
+}
+
 // Row 2: the room that a wake of that kind asks for.
 fn room(kind: u64) -> usize
     ensures { λ r. ⌜ r ≡ wakeRoom kind ⌝ }
@@ -94,29 +108,50 @@ fn room(kind: u64) -> usize
     DEADLINE_ROOM
 }
 
-// The record that the link at byte `link` leads to is woken; answers where the run ends.
-fn wake_record(send: &mut [u8], kind: u64, link: usize, clock: u64, run: &mut [u8]) -> usize
-    requires { ⌜ Here (now send) link × (wakeRoom kind ≤ length (now run)) ⌝ }
+// The record that the link at byte `link` leads to is woken; answers where the run ends. Outside hours a send
+// wake does nothing.
+fn wake_record(
+    send: &mut [u8],
+    kind: u64,
+    link: usize,
+    clock: u64,
+    calendar: &[u8],
+    unix_ms: u64,
+    run: &mut [u8],
+) -> usize
+    requires { let w = waking kind (keyIn (now send) link) clock (now calendar) «unix_ms» in
+        ⌜ Here (now send) link × (dated w ≡ true) × (wakeRoom kind ≤ length (now run)) ⌝ }
     ensures { λ r.
         let b = now (send .entry) in
-        let w = waking kind (keyIn b link) clock in
+        let w = waking kind (keyIn b link) clock (now (calendar .entry)) «unix_ms» in
         let s = wakeStep w (decode b) in
         let sent = wakeRun w (some (recIn b link)) in
         ⌜ Wakes s sent (now (run .entry)) r (now (send .exit)) (now (run .exit)) ⌝ }
 {
-    if kind == SEND {
-        return send_wake(send, link, clock, run);
+    if kind != SEND {
+        return deadline_wake(send, link, run);
     }
-    deadline_wake(send, link, run)
+    if !is_open(calendar, unix_ms) {
+        return 0;
+    }
+    send_wake(send, link, clock, run)
 }
 
 // A wake of the record with that id: what it sends, and the store after it.
-pub fn wake(send: &mut [u8], kind: u64, id: &[u8], clock: u64, run: &mut [u8]) -> Answer
+pub fn wake(
+    send: &mut [u8],
+    kind: u64,
+    id: &[u8],
+    clock: u64,
+    calendar: &[u8],
+    unix_ms: u64,
+    run: &mut [u8],
+) -> Answer
     requires { ⌜ Sends (now send) ⌝ }
     ensures { λ r.
         let b = now (send .entry) in
         let out = now (run .entry) in
-        let w = waking kind (now (id .entry)) clock in
+        let w = waking kind (now (id .entry)) clock (now (calendar .entry)) «unix_ms» in
         ⌜ record {
           number = r .number;
           run = r .run;
@@ -129,6 +164,9 @@ pub fn wake(send: &mut [u8], kind: u64, id: &[u8], clock: u64, run: &mut [u8]) -
     if !is_kind(kind) {
         return answer::refuse(answer::NO_WORK);
     }
+    if !is_dated(kind, calendar) {
+        return answer::refuse(answer::BAD_CALENDAR);
+    }
     if run.len() < room(kind) {
         return answer::refuse(answer::SHORT_OUTPUT);
     }
@@ -136,6 +174,6 @@ pub fn wake(send: &mut [u8], kind: u64, id: &[u8], clock: u64, run: &mut [u8]) -
     if send[link] == 0 {
         return answer::refuse(answer::UNKNOWN_ID);
     }
-    let end = wake_record(send, kind, link, clock, run);
+    let end = wake_record(send, kind, link, clock, calendar, unix_ms, run);
     answer::sent(end as u64)
 }

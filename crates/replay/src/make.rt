@@ -6,6 +6,7 @@ use crate::room;
 use crate::text;
 use crate::value;
 use crate::value::Value;
+use calendar::ALWAYS;
 use rows::answer;
 use rows::answer::Answer;
 
@@ -119,7 +120,7 @@ fn packet(
     arrive(&frame, &from, &to, rules_line, known_line, recv, send, run)
 }
 
-// `wake KIND ID CLOCK`.
+// `wake KIND ID CLOCK`, within hours: the original has none.
 fn wake(line: &[u8], send: &mut [u8], run: &mut [u8]) -> Made {
     if text::rest(line) != 3 {
         return Made::Bad;
@@ -134,7 +135,7 @@ fn wake(line: &[u8], send: &mut [u8], run: &mut [u8]) -> Made {
     let Value::Is(clock) = value::number(line, 3) else {
         return Made::Bad;
     };
-    Made::Of(message::wake(send, kind, &id, clock, run))
+    Made::Of(message::wake(send, kind, &id, clock, &ALWAYS, 0, run))
 }
 
 // `report ID`.

@@ -61,6 +61,8 @@ pub const CLOCK: u64 = 24;
 
 pub const UNSOUND_STORE: u64 = 25;
 
+pub const BAD_CALENDAR: u64 = 26;
+
 // A refusal: nothing is sent, nobody wakes.
 pub fn refuse(number: u64) -> Answer
     ensures { λ r. ⌜ (r .number ≡ number) × (r .run ≡ 0) × (r .wake ≡ 0) ⌝ }

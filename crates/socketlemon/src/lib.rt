@@ -88,13 +88,15 @@ pub extern "C" fn socketlemon_push(
     )
 }
 
-// A wake of a message: kind 1 sends what is due, kind 2 lets the deadline pass.
+// A wake of a message: kind 1 sends what is due within the calendar's hours, kind 2 lets the deadline pass.
 #[no_mangle]
 pub extern "C" fn socketlemon_wake(
     send: &mut [u8],
     kind: u64,
     id: &[u8; 8],
     clock: u64,
+    calendar: &[u8],
+    unix_ms: u64,
     run: &mut [u8],
 ) -> Answer
     ensures { λ r.
@@ -105,9 +107,9 @@ pub extern "C" fn socketlemon_wake(
           send = now (send .exit);
           out = now (run .exit);
         }
-        ≡ wakeOf (now (send .entry)) kind (now (id .entry)) clock (now (run .entry)) ⌝ }
+        ≡ wakeOf (now (send .entry)) kind (now (id .entry)) clock (now (calendar .entry)) «unix_ms» (now (run .entry)) ⌝ }
 {
-    message::wake(send, kind, id, clock, run)
+    message::wake(send, kind, id, clock, calendar, unix_ms, run)
 }
 
 // The report on a message, into `out`.

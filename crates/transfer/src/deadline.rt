@@ -22,7 +22,7 @@ fn wake(
     rules: &[u8],
     run: &mut [u8],
 ) {
-    let woken = message::wake(tablet_send, 2, id, clock, run);
+    let woken = play::wake(tablet_send, 2, id, clock, run);
     show::field(b"wake 2 at ", clock);
     show::answer(woken);
     show::end();

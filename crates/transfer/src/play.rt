@@ -2,6 +2,8 @@
 
 use crate::read;
 use crate::show;
+use calendar::ALWAYS;
+use rows::answer::Answer;
 
 // The most packets that a run has.
 const PACKETS: usize = 25;
@@ -62,6 +64,11 @@ pub(crate) fn deliver(
     }
 }
 
+// A wake within hours.
+pub(crate) fn wake(send: &mut [u8], kind: u64, id: &[u8; 8], clock: u64, run: &mut [u8]) -> Answer {
+    message::wake(send, kind, id, clock, &ALWAYS, 0, run)
+}
+
 // The tablet wakes from `start` on each 100 ms, until it sends nothing, and at most five times.
 pub(crate) fn wakes(
     tablet_recv: &mut [u8],
@@ -76,7 +83,7 @@ pub(crate) fn wakes(
     let mut clock = start;
     let mut k: u64 = 0;
     while k < WAKES {
-        let woken = message::wake(tablet_send, 1, id, clock, run);
+        let woken = wake(tablet_send, 1, id, clock, run);
         show::field(b"wake 1 at ", clock);
         show::answer(woken);
         show::end();

@@ -17,7 +17,7 @@ returns c =
     rw (sym (c .before .before .sound .ensures) ∙ not-true _ (c .before .if1 .taken), r .0, r .1, r .2) refl
 
 -- the store is sound
-sounds : (c : tie.Else1) → sound roleSend (c .before .before .before .before .before .args .send .now) ≡ true
+sounds : (c : tie.Else1) → sound roleSend (c .before .before .before .before .before .before .args .send .now) ≡ true
 sounds c = sym (c .before .sound .ensures) ∙ not-false _ (c .if1 .left)
 
 wake-requires : tie.Need-wake-requires

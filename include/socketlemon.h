@@ -51,7 +51,8 @@ typedef struct {
 #define SOCKETLEMON_NONE_WHOLE 23
 #define SOCKETLEMON_CLOCK 24
 #define SOCKETLEMON_UNSOUND_STORE 25
-#define SOCKETLEMON_REFUSALS 25
+#define SOCKETLEMON_BAD_CALENDAR 26
+#define SOCKETLEMON_REFUSALS 26
 
 /* The bytes of a store with `cells` cells, 1 to 45. */
 #define SOCKETLEMON_STORE_BYTES(cells) (16 + 8 * 328 + 1380 * (size_t)(cells))
@@ -69,6 +70,9 @@ typedef struct {
 #define SOCKETLEMON_TAKE_DATA (328 + 32500)
 #define SOCKETLEMON_REPORT 44
 #define SOCKETLEMON_ADDRESS 16
+
+/* The bytes of a calendar with so many closed dates, 0 to 32. */
+#define SOCKETLEMON_CALENDAR(dates) (31 + 4 * (size_t)(dates))
 
 /* Makes a store fresh, in a role. */
 socketlemon_answer socketlemon_setup(uint8_t *store, size_t store_len, uint64_t role);
@@ -88,8 +92,13 @@ socketlemon_answer socketlemon_push(uint8_t *send, size_t send_len, const uint8_
                                     const uint8_t *topic, size_t topic_len, const uint8_t *data, size_t data_len, uint64_t created,
                                     uint64_t try_ms, uint8_t *run, size_t run_len);
 
-/* Wakes a message: kind 1 sends what is due, kind 2 lets its deadline pass. */
-socketlemon_answer socketlemon_wake(uint8_t *send, size_t send_len, uint64_t kind, const uint8_t *id, uint64_t clock, uint8_t *run, size_t run_len);
+/* Wakes a message: kind 1 sends what is due, if the calendar is open at `unix_ms`, and else does nothing; kind 2 lets the
+ * deadline pass, and reads no calendar. Due is what `clock` says; hours go by `unix_ms` alone, milliseconds since 1970 in UTC.
+ * A calendar is for each weekday from Monday on its opening and its closing minute (2 bytes each; 0 to 1,440, the closing one
+ * not included; two zeros: closed all day), the offset of local time from UTC in minutes, plus 720 (2; 0 to 1,560), the number
+ * of closed dates (1; 0 to 32), and for each its year (2; 1970 to 9999), month (1) and day (1). Numbers are big-endian. */
+socketlemon_answer socketlemon_wake(uint8_t *send, size_t send_len, uint64_t kind, const uint8_t *id, uint64_t clock, const uint8_t *calendar,
+                                    size_t calendar_len, uint64_t unix_ms, uint8_t *run, size_t run_len);
 
 /* Says how far a message is. */
 socketlemon_answer socketlemon_report(const uint8_t *send, size_t send_len, const uint8_t *id, uint8_t *out, size_t out_len);

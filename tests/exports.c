@@ -1,5 +1,6 @@
 /* Calls every export of the library from C, on a message of one piece that goes from a tablet to the office; then inits of a message
- * that has arrived in part. Exits with 0 and a last line 'N passed, 0 failed' if every answer is the expected one. */
+ * that has arrived in part, and wakes within and outside of sending hours.
+ * Exits with 0 and a last line 'N passed, 0 failed' if every answer is the expected one. */
 #include <stdio.h>
 #include <string.h>
 
@@ -119,8 +120,119 @@ static void inits(void) {
     expect("an init with the reply flag restarts", restarts(&frame[8], 4));
 }
 
+/* A calendar: the same window on every weekday, UTC, no closed date. */
+typedef struct {
+    uint8_t bytes[SOCKETLEMON_CALENDAR(1)];
+    size_t len;
+} calendar;
+
+static calendar open_from(unsigned opening, unsigned closing) {
+    calendar c = {{0}, SOCKETLEMON_CALENDAR(0)};
+    for (size_t at = 0; at < 28; at += 4) {
+        c.bytes[at] = (uint8_t)(opening >> 8), c.bytes[at + 1] = (uint8_t)opening;
+        c.bytes[at + 2] = (uint8_t)(closing >> 8), c.bytes[at + 3] = (uint8_t)closing;
+    }
+    c.bytes[28] = 720 >> 8, c.bytes[29] = 720 & 255;
+    return c;
+}
+
+/* The same with one closed date. */
+static calendar closed_on(calendar c, unsigned year, uint8_t month, uint8_t day) {
+    const uint8_t date[] = {(uint8_t)(year >> 8), (uint8_t)year, month, day};
+    c.bytes[30] = 1;
+    memcpy(c.bytes + 31, date, sizeof date);
+    c.len = SOCKETLEMON_CALENDAR(1);
+    return c;
+}
+
+/* The same by another local time, so many minutes after UTC. */
+static calendar offset_by(calendar c, int minutes) {
+    c.bytes[28] = (uint8_t)((minutes + 720) >> 8), c.bytes[29] = (uint8_t)(minutes + 720);
+    return c;
+}
+
+static const uint8_t id[8] = {1, 2, 3, 4, 5, 6, 7, 8};
+static uint8_t tablet_was[STORE], run_was[SOCKETLEMON_WAKE_RUN];
+
+static socketlemon_answer wake(uint64_t kind, uint64_t clock, calendar c, uint64_t unix_ms) {
+    return socketlemon_wake(tablet, STORE, kind, id, clock, c.bytes, c.len, unix_ms, run, sizeof run);
+}
+
+/* Whether a wake of an id is answered with a number, and no byte of the store or of the run changes. */
+static int wakes_for_nothing(uint64_t number, uint64_t kind, const uint8_t *of, calendar c, uint64_t unix_ms, size_t run_len) {
+    memcpy(tablet_was, tablet, STORE);
+    memset(run, 0xee, sizeof run);
+    memcpy(run_was, run, sizeof run);
+    return answers(socketlemon_wake(tablet, STORE, kind, of, 1000, c.bytes, c.len, unix_ms, run, run_len), number, 0, 0) &&
+           memcmp(tablet, tablet_was, STORE) == 0 && memcmp(run, run_was, sizeof run) == 0;
+}
+
+/* Whether a send wake at this time sends the init that is due, which changes nothing in the store; else it does nothing. */
+static int sends(calendar c, uint64_t unix_ms) {
+    memcpy(tablet_was, tablet, STORE);
+    return answers(wake(1, 1000, c, unix_ms), 0, 60, 0) && memcmp(tablet, tablet_was, STORE) == 0;
+}
+
+static int sleeps(calendar c, uint64_t unix_ms) { return wakes_for_nothing(0, 1, id, c, unix_ms, sizeof run); }
+
+static int is_bad(calendar c) { return wakes_for_nothing(SOCKETLEMON_BAD_CALENDAR, 1, id, c, 0, sizeof run); }
+
+/* 17 November 2026, a Tuesday, 0:00 UTC; a day and a minute in milliseconds. */
+static const uint64_t tuesday = 1794873600000, day = 86400000, minute = 60000;
+
+/* Within hours and outside, on a message whose init is due. */
+static void hours(void) {
+    calendar always = open_from(0, 1440), shut = open_from(0, 0), office_hours = open_from(450, 1020), c;
+    expect("open at its first millisecond", sends(office_hours, tuesday + 450 * minute));
+    expect("shut just before", sleeps(office_hours, tuesday + 450 * minute - 1));
+    expect("open up to its last millisecond", sends(office_hours, tuesday + 1020 * minute - 1));
+    expect("shut at its closing minute", sleeps(office_hours, tuesday + 1020 * minute));
+    expect("never open", sleeps(shut, tuesday) && sleeps(shut, 0) && sleeps(shut, UINT64_MAX));
+    expect("always open", sends(always, tuesday) && sends(always, 0) && sends(always, UINT64_MAX));
+    c = always;
+    memset(c.bytes + 4, 0, 4);
+    expect("shut on Tuesdays only", sleeps(c, tuesday) && sleeps(c, tuesday + day - 1) && sends(c, tuesday - 1) && sends(c, tuesday + day));
+    c = offset_by(c, 60);
+    expect("by local time", sleeps(c, tuesday - 60 * minute) && sends(c, tuesday - 60 * minute - 1) && sends(c, tuesday + day - 60 * minute));
+    c = closed_on(always, 2026, 11, 17);
+    expect("shut on a closed date only", sleeps(c, tuesday) && sleeps(c, tuesday + day - 1) && sends(c, tuesday - 1) && sends(c, tuesday + day));
+    c = offset_by(closed_on(always, 1970, 1, 1), -720);
+    expect("a local day before 1970", sends(c, 0) && sends(c, day / 2 - 1) && sleeps(c, day / 2));
+}
+
+/* Refusal 26, and at its place: behind 25 and 20, before 2 and 8. */
+static void bad_calendars(void) {
+    calendar always = open_from(0, 1440), bad = open_from(1, 1), c = always;
+    c.len--;
+    expect("a calendar cut short", is_bad(c));
+    c.len += 2;
+    expect("a calendar that is too long", is_bad(c));
+    c.len = 0;
+    expect("no calendar", is_bad(c));
+    expect("windows the wrong way round, and too long",
+           is_bad(open_from(2, 1)) && is_bad(bad) && is_bad(open_from(1440, 1440)) && is_bad(open_from(0, 1441)));
+    expect("offsets", is_bad(offset_by(always, -721)) && is_bad(offset_by(always, 841)) && sends(offset_by(always, -720), 0) &&
+                              sends(offset_by(always, 840), 0));
+    expect("dates that do not exist", is_bad(closed_on(always, 2026, 4, 31)) && is_bad(closed_on(always, 2100, 2, 29)) &&
+                                              is_bad(closed_on(always, 2026, 0, 1)) && is_bad(closed_on(always, 2026, 13, 1)) &&
+                                              is_bad(closed_on(always, 2026, 1, 0)) && is_bad(closed_on(always, 1969, 12, 31)) &&
+                                              is_bad(closed_on(always, 10000, 1, 1)));
+    expect("dates that do", sends(closed_on(always, 2096, 2, 29), 0) && sends(closed_on(always, 2400, 2, 29), 0) && sends(closed_on(always, 9999, 12, 31), 0));
+
+    static const uint8_t unknown[8] = {9};
+    expect("26 before 2 and 8", wakes_for_nothing(SOCKETLEMON_BAD_CALENDAR, 1, unknown, bad, 0, 0));
+    expect("then 2, also outside hours", wakes_for_nothing(SOCKETLEMON_SHORT_OUTPUT, 1, unknown, open_from(0, 0), 0, SOCKETLEMON_WAKE_RUN - 1));
+    expect("then 8, also outside hours", wakes_for_nothing(SOCKETLEMON_UNKNOWN_ID, 1, unknown, open_from(0, 0), 0, SOCKETLEMON_WAKE_RUN));
+    expect("20 before 26", wakes_for_nothing(SOCKETLEMON_NO_WORK, 3, id, bad, 0, sizeof run) &&
+                                   wakes_for_nothing(SOCKETLEMON_NO_WORK, 0, id, bad, 0, sizeof run));
+    tablet[0] ^= 1;
+    expect("25 first", wakes_for_nothing(SOCKETLEMON_UNSOUND_STORE, 3, id, bad, 0, 0));
+    tablet[0] ^= 1;
+    expect("a deadline wake reads no calendar", wakes_for_nothing(SOCKETLEMON_UNKNOWN_ID, 2, unknown, bad, 0, SOCKETLEMON_WAKE_RUN) &&
+                                                        answers(wake(2, 9000, bad, 0), 0, 46, 0) && answers(wake(2, 9000, open_from(0, 0), 0), 0, 0, 0));
+}
+
 int main(void) {
-    static const uint8_t id[8] = {1, 2, 3, 4, 5, 6, 7, 8};
     static const uint8_t message[300] = {42};
     uint8_t key[32] = {7};
     expect("address of the office", answers(socketlemon_address(key, sizeof key, here, sizeof here), 0, 0, 0));
@@ -140,7 +252,7 @@ int main(void) {
     expect("init", answers(to_office(), 0, 55, 0));
     first_packet(reply);
     expect("ack of the init", answers(to_tablet(), 0, 0, 1));
-    expect("send wake", answers(socketlemon_wake(tablet, STORE, 1, id, 1000, run, sizeof run), 0, 34 + 36 + 300, 0));
+    expect("send wake", answers(wake(1, 1000, open_from(0, 1440), 0), 0, 34 + 36 + 300, 0));
     first_packet(run);
     expect("chunk", answers(to_office(), 0, 70, 0));
     expect("report", answers(socketlemon_report(tablet, STORE, id, report, sizeof report), 0, 0, 0));
@@ -148,7 +260,7 @@ int main(void) {
     first_packet(reply);
     expect("ack of the chunk", answers(to_tablet(), 0, 0, 1));
     expect("the init again, behind the chunk", changes_nothing(init));
-    expect("wake with all acknowledged", answers(socketlemon_wake(tablet, STORE, 1, id, 1100, run, sizeof run), 0, 86, 0));
+    expect("wake with all acknowledged", answers(wake(1, 1100, open_from(0, 1440), 0), 0, 86, 0));
     first_packet(run);
     expect("done", answers(to_office(), 0, 86, 0));
     first_packet(reply);
@@ -159,10 +271,14 @@ int main(void) {
     expect("read", answers(to_tablet(), 0, 0, 0));
     expect("nothing left to take",
            answers(socketlemon_take(office, STORE, data, sizeof data, run, sizeof run), SOCKETLEMON_NONE_WHOLE, 0, 0));
-    expect("first deadline", answers(socketlemon_wake(tablet, STORE, 2, id, 9000, run, sizeof run), 0, 0, 0));
-    expect("second deadline", answers(socketlemon_wake(tablet, STORE, 2, id, 9000, run, sizeof run), 0, 0, 0));
+    expect("first deadline", answers(wake(2, 9000, open_from(0, 1440), 0), 0, 0, 0));
+    expect("second deadline", answers(wake(2, 9000, open_from(0, 1440), 0), 0, 0, 0));
     expect("the id is gone", answers(socketlemon_report(tablet, STORE, id, report, sizeof report), SOCKETLEMON_UNKNOWN_ID, 0, 0));
     inits();
+    expect("push again", answers(socketlemon_push(tablet, STORE, id, 0, there, here, (const uint8_t *)"ducts", 5, message, sizeof message, 5000, 60000,
+                                                  run, sizeof run), 0, 60, 0));
+    hours();
+    bad_calendars();
     printf("%d passed, %d failed\n", passed, failed);
     return failed != 0;
 }

@@ -1,9 +1,10 @@
 /* Feeds random and mutated bytes, lengths, stores and numbers to every export, and checks of each answer: the number is one
  * of docs/PROTOCOL.md's, the run fits its buffer, bytes past what was written stay, and a refusal changed nothing. Of an init that
- * was accepted: an equal one has changed nothing either, and any other has left a fresh record.
+ * was accepted: an equal one has changed nothing either, and any other has left a fresh record. Of a wake: what its calendar says
+ * by the model here, which shares nothing with the library.
  * Use: fuzz [SEED [ROUNDS [all]]]; under valgrind it also shows that nothing outside the buffers is touched, for each lies in an
- * allocation of its own. Exits with 0 if every answer was right and, with `all`, every refusal was met and both kinds of inits of a
- * message with pieces. */
+ * allocation of its own. Exits with 0 if every answer was right and, with `all`, every refusal was met, both kinds of inits of a
+ * message with pieces, every way to spoil a calendar, and wakes that would have sent something, within hours and outside. */
 #include <stdio.h>
 #include <stdlib.h>
 #include <string.h>
@@ -192,14 +193,196 @@ static void loop_back(buffer *stores, const uint8_t *run, size_t len) {
     }
 }
 
+/* A calendar as document 02 has it, in its own words: seven windows, the offset, the number of closed dates, and these. */
+enum { WINDOWS = 7, OFFSET_AT = 28, DATES_AT = 31, MOST_DATES = 32, DAY_MINUTES = 1440, OFFSET_LEAST = -720, OFFSET_MOST = 840 };
+enum { SEND = 1, DEADLINE = 2, WEDNESDAY = 2 };
+
+typedef struct {
+    uint64_t year, month, day;
+} date;
+
+static unsigned pair(const uint8_t *at) { return at[0] * 256u + at[1]; }
+
+static void put_pair(uint8_t *at, unsigned n) { at[0] = (uint8_t)(n >> 8), at[1] = (uint8_t)n; }
+
+static uint64_t year_days(uint64_t y) { return y % 400 == 0 || (y % 4 == 0 && y % 100 != 0) ? 366 : 365; }
+
+static uint64_t month_days(uint64_t y, uint64_t m) {
+    static const uint8_t days[] = {31, 28, 31, 30, 31, 30, 31, 31, 30, 31, 30, 31};
+    return days[m - 1] + (m == 2 && year_days(y) == 366);
+}
+
+static date closed_date(buffer c, size_t i) {
+    const uint8_t *at = c.at + DATES_AT + 4 * i;
+    return (date){pair(at), at[2], at[3]};
+}
+
+static int well_formed(buffer c) {
+    if (c.len < DATES_AT || c.at[DATES_AT - 1] > MOST_DATES || c.len != SOCKETLEMON_CALENDAR(c.at[DATES_AT - 1])) return 0;
+    if (pair(c.at + OFFSET_AT) > OFFSET_MOST - OFFSET_LEAST) return 0;
+    for (const uint8_t *at = c.at; at < c.at + 4 * WINDOWS; at += 4) {
+        unsigned opening = pair(at), closing = pair(at + 2);
+        if (closing > DAY_MINUTES || (opening >= closing && (opening || closing))) return 0;
+    }
+    for (size_t i = 0; i < c.at[DATES_AT - 1]; i++) {
+        date d = closed_date(c, i);
+        if (d.year < 1970 || d.year > 9999 || d.month < 1 || d.month > 12 || d.day < 1 || d.day > month_days(d.year, d.month)) return 0;
+    }
+    return 1;
+}
+
+/* The date so many days after 31 December 1969, a Wednesday: years and months are counted. 400 years have 146,097 days. */
+static date date_after(uint64_t days) {
+    if (days == 0) return (date){1969, 12, 31};
+    date d = {1970 + 400 * ((days - 1) / 146097), 1, 0};
+    for (days = (days - 1) % 146097; days >= year_days(d.year); d.year++) days -= year_days(d.year);
+    for (; days >= month_days(d.year, d.month); d.month++) days -= month_days(d.year, d.month);
+    d.day = days + 1;
+    return d;
+}
+
+static int is_open(buffer c, uint64_t unix_ms) {
+    uint64_t local = unix_ms / 60000 + DAY_MINUTES + pair(c.at + OFFSET_AT) + OFFSET_LEAST, days = local / DAY_MINUTES;
+    const uint8_t *window = c.at + (days + WEDNESDAY) % WINDOWS * 4;
+    if (local % DAY_MINUTES < pair(window) || local % DAY_MINUTES >= pair(window + 2)) return 0;
+    date today = date_after(days);
+    for (size_t i = 0; i < c.at[DATES_AT - 1]; i++) {
+        date d = closed_date(c, i);
+        if (d.year == today.year && d.month == today.month && d.day == today.day) return 0;
+    }
+    return 1;
+}
+
+/* Ways to spoil a calendar, and how often each was met; wakes that would have sent something, outside hours and within a window. */
+enum { CUT, TOO_LONG, WRONG_DATE, WRONG_WINDOW, LATE_WINDOW, WRONG_OFFSET, MANY_DATES, NOISE, WAYS };
+static unsigned long spoiled[WAYS], shut_wakes, open_wakes;
+
+static const uint8_t always[SOCKETLEMON_CALENDAR(0)] = {0, 0, 5, 160, 0, 0, 5, 160, 0, 0, 5, 160, 0, 0, 5,   160,
+                                                        0, 0, 5, 160, 0, 0, 5, 160, 0, 0, 5, 160, 2, 208, 0};
+
+/* A calendar of exactly so many dates, around one day of its own: with random windows, or open all the time but for its dates. */
+static buffer calendar_about(uint64_t days, size_t dates) {
+    buffer c = make(SOCKETLEMON_CALENDAR(dates));
+    memcpy(c.at, always, sizeof always);
+    for (uint8_t *at = c.at; below(2) && at < c.at + 4 * WINDOWS; at += 4) {
+        unsigned opening = (unsigned)below(DAY_MINUTES);
+        put_pair(at, opening), put_pair(at + 2, below(3) ? opening + 1 + (unsigned)below(DAY_MINUTES - opening) : DAY_MINUTES);
+        if (below(6) == 0) memset(at, 0, 4);
+    }
+    put_pair(c.at + OFFSET_AT, (unsigned)around(below(2) ? 720 : 1560, 1560));
+    c.at[DATES_AT - 1] = (uint8_t)dates;
+    for (size_t i = 0; i < dates; i++) {
+        uint64_t near = days + below(40);
+        date d = date_after(near > 20 ? near - 20 : 1);
+        if (d.year < 1970 || d.year > 9999) d = (date){2000, 2, 29};
+        uint8_t *at = c.at + DATES_AT + 4 * i;
+        put_pair(at, (unsigned)d.year), at[2] = (uint8_t)d.month, at[3] = (uint8_t)d.day;
+    }
+    return c;
+}
+
+/* The same calendar in another length. */
+static buffer resized(buffer c, size_t len) {
+    buffer other = make(len);
+    if (len) memcpy(other.at, c.at, len < c.len ? len : c.len);
+    drop(c);
+    return other;
+}
+
+/* A calendar with something wrong. */
+static buffer spoil(buffer c) {
+    static const uint16_t wrong[][3] = {{2026, 4, 31}, {2100, 2, 29},  {2026, 0, 1},  {2026, 13, 1}, {2026, 1, 0},
+                                        {1969, 12, 31}, {10000, 1, 1}, {2027, 2, 29}, {2026, 1, 32}};
+    size_t way = below(WAYS), dates = c.at[DATES_AT - 1];
+    uint8_t *window = c.at + 4 * below(WINDOWS);
+    spoiled[way]++;
+    switch (way) {
+    case CUT: return resized(c, below(2) ? below(c.len) : c.len - 1);
+    case TOO_LONG: return resized(c, c.len + 1 + (below(2) ? 3 : below(9)));
+    case WRONG_DATE: {
+        if (dates == 0) c = resized(c, SOCKETLEMON_CALENDAR(dates = 1));
+        c.at[DATES_AT - 1] = (uint8_t)dates;
+        uint8_t *at = c.at + DATES_AT + 4 * below(dates);
+        const uint16_t *d = wrong[below(sizeof wrong / sizeof *wrong)];
+        put_pair(at, d[0]), at[2] = (uint8_t)d[1], at[3] = (uint8_t)d[2];
+        break;
+    }
+    case WRONG_WINDOW: {
+        unsigned closing = (unsigned)below(DAY_MINUTES + 1), opening = closing + (unsigned)below(3);
+        put_pair(window, opening ? opening : 1), put_pair(window + 2, closing);
+        break;
+    }
+    case LATE_WINDOW: put_pair(window, (unsigned)below(DAY_MINUTES)), put_pair(window + 2, DAY_MINUTES + 1 + (unsigned)below(3)); break;
+    case WRONG_OFFSET: put_pair(c.at + OFFSET_AT, 1561 + (unsigned)below(below(2) ? 2 : 63974)); break;
+    case MANY_DATES:
+        drop(c);
+        return calendar_about(20000, MOST_DATES + 1);
+    default:
+        for (size_t i = 0; i < c.len; i++) c.at[i] = (uint8_t)next();
+        c.at[0] |= 8;
+    }
+    return c;
+}
+
+/* A time at which the calendar opens or closes on a local day, so many after 31 December 1969, or the millisecond before. */
+static uint64_t bound(buffer c, uint64_t days) {
+    const uint8_t *window = c.at + (days + WEDNESDAY) % WINDOWS * 4;
+    uint64_t local = (days - 1) * DAY_MINUTES + pair(window + 2 * below(2));
+    return (local - OFFSET_LEAST - pair(c.at + OFFSET_AT)) * 60000 - below(2);
+}
+
+/* A calendar and a time: mostly about the time, at one of its bounds or anywhere, else always open; now and then spoiled. */
+static buffer pick_hours(uint64_t *unix_ms) {
+    uint64_t days = 2 + (below(3) ? below(60000) : below(8) ? below(3000000) : next() / 86400000 % 200000000);
+    *unix_ms = below(9) ? days * 86400000 + below(86400000) : next() >> below(64);
+    if (below(3) == 0) {
+        buffer c = make(sizeof always);
+        memcpy(c.at, always, c.len);
+        return c;
+    }
+    buffer c = calendar_about(days, below(2) ? below(4) : below(MOST_DATES + 1));
+    if (below(2)) *unix_ms = bound(c, days);
+    if (below(4)) return c;
+    c = spoil(c);
+    expect("a spoiled calendar by the model", !well_formed(c));
+    return c;
+}
+
+static int same_answer(socketlemon_answer a, socketlemon_answer b) { return a.number == b.number && a.run == b.run && a.wake == b.wake; }
+
+/* A wake by a calendar, beside the same wake by one that is always open. A deadline wake does the same. A send wake does so within
+ * hours; outside it gives the same refusal or does nothing; and a calendar that is none is 26, behind 25 and 20. */
+static socketlemon_answer wake(buffer send, uint64_t kind, uint64_t clock, buffer run) {
+    uint64_t unix_ms;
+    buffer c = pick_hours(&unix_ms), twin = make(send.len), twin_run = make(run.len);
+    memcpy(twin.at, send.at, send.len);
+    if (run.len) memcpy(twin_run.at, run.at, run.len);
+    keep(send), keep(run), keep(c);
+    socketlemon_answer b = socketlemon_wake(twin.at, twin.len, kind, id, clock, always, sizeof always, 0, twin_run.at, twin_run.len);
+    socketlemon_answer a = socketlemon_wake(send.at, send.len, kind, id, clock, c.at, c.len, unix_ms, run.at, run.len);
+    answer("wake", a, run, 1, &send);
+    expect("the calendar stays", same_from(c, 0));
+    int formed = well_formed(c);
+    if (kind == SEND && !formed && b.number != SOCKETLEMON_UNSOUND_STORE) {
+        expect("a wake with a bad calendar", a.number == SOCKETLEMON_BAD_CALENDAR);
+    } else if (kind == SEND && formed && !is_open(c, unix_ms)) {
+        expect("a wake outside hours", a.number == b.number && a.run == 0 && a.wake == 0 && same_from(send, 0) && same_from(run, 0));
+        shut_wakes += b.run > 0;
+    } else {
+        int same = memcmp(send.at, twin.at, send.len) == 0 && (run.len == 0 || memcmp(run.at, twin_run.at, run.len) == 0);
+        expect("a wake within hours, or of another kind", same_answer(a, b) && same);
+        open_wakes += kind == SEND && b.run > 0 && memcmp(c.at, always, DATES_AT) != 0;
+    }
+    drop(c), drop(twin), drop(twin_run);
+    return a;
+}
+
 /* A message that was pushed goes on its way, more or less. */
 static void carry(buffer *stores, const uint8_t *run, size_t len) {
     loop_back(stores, run, len);
     for (uint64_t clock = 1000; clock < 2000 && below(8); clock += 100) {
         buffer out = make(SOCKETLEMON_WAKE_RUN);
-        keep(out), keep(stores[1]);
-        socketlemon_answer a = socketlemon_wake(stores[1].at, stores[1].len, 1, id, clock, out.at, out.len);
-        answer("wake", a, out, 1, &stores[1]);
+        socketlemon_answer a = wake(stores[1], SEND, clock, out);
         if (a.number == 0) loop_back(stores, out.at, (size_t)a.run);
         drop(out);
     }
@@ -228,9 +411,7 @@ static void one_call(buffer *stores) {
     }
     case 1: {
         run = make(around(SOCKETLEMON_WAKE_RUN, 40000));
-        keep(run), keep(send);
-        socketlemon_answer a = socketlemon_wake(send.at, send.len, below(9) ? 1 : below(4), id, next() >> below(64), run.at, run.len);
-        answer("wake", a, run, 1, &send);
+        socketlemon_answer a = wake(send, below(9) ? SEND : below(4), next() >> below(64), run);
         if (a.number == 0) loop_back(stores, run.at, (size_t)a.run);
         break;
     }
@@ -292,7 +473,10 @@ int main(int argc, char **argv) {
     for (unsigned long rounds = argc > 2 ? strtoul(argv[2], NULL, 0) : 300; rounds > 0; rounds--) sequence();
     int refusals = 0, wanted = argc > 3 && strcmp(argv[3], "all") == 0 ? SOCKETLEMON_REFUSALS : 0;
     for (int number = 1; number <= SOCKETLEMON_REFUSALS; number++) refusals += met[number];
+    unsigned long ways = 0;
+    for (int way = 0; way < WAYS; way++) ways += spoiled[way] > 0;
     printf("%lu answers right, %lu wrong; %d of %d refusals met; inits of messages with pieces: %lu equal, %lu others\n", passed, failed, refusals,
            SOCKETLEMON_REFUSALS, equal_inits, other_inits);
-    return failed != 0 || refusals < wanted || (wanted && !(equal_inits && other_inits));
+    printf("wakes with something to send: %lu outside hours, %lu within a window; calendars spoiled in %lu of %d ways\n", shut_wakes, open_wakes, ways, WAYS);
+    return failed != 0 || refusals < wanted || (wanted && !(equal_inits && other_inits && shut_wakes && open_wakes && ways == WAYS));
 }

@@ -5,7 +5,7 @@ use benches::library::Node;
 use benches::scene::{self, Scene};
 use criterion::{black_box, criterion_group, criterion_main, BatchSize, BenchmarkId, Criterion};
 use criterion::{measurement::WallTime, BenchmarkGroup};
-use socketlemon::Store;
+use socketlemon::{Calendar, Date, Refusal, Store, Wake};
 
 const CELLS: [usize; 4] = [1, 5, 15, Store::MOST_CELLS];
 
@@ -113,6 +113,60 @@ fn cells(c: &mut Criterion) {
     }
 }
 
+/// A message that leaves, and an id that nobody has.
+const LEAVING: [u8; 8] = *b"house 12";
+const NOBODY: [u8; 8] = *b"nowhere.";
+
+/// Always open but for so many dates, the days from 1 February 2000 on; it is asked about 1 January 1970.
+fn closed_on(dates: usize) -> Calendar {
+    let days = (2..4).flat_map(|month| (1..29).map(move |day| Date::new(2000, month, day).expect("a date")));
+    days.take(dates)
+        .fold(Calendar::always(), |calendar, date| calendar.close_on(date).expect("room for a date"))
+}
+
+/// A node of so many cells with a message that has timed out, to which a send wake does nothing more, and with others.
+fn timed_out(cells: usize, others: u8) -> Node {
+    let mut node = Node::new(benches::KEY, benches::PEER_KEY, cells);
+    node.push(LEAVING, &benches::message(1));
+    for n in 0..others {
+        node.push([n; 8], &benches::message(6 * benches::PIECE));
+    }
+    node.wake_as(Wake::Deadline, LEAVING).expect("the deadline passes");
+    node
+}
+
+/// Times a wake that is answered so.
+fn wake(
+    group: &mut Group<'_>,
+    name: BenchmarkId,
+    start: &Node,
+    wake: Wake<'_>,
+    id: [u8; 8],
+    answer: Result<usize, Refusal>,
+) {
+    assert_eq!(start.clone().wake_as(wake, id), answer);
+    time(group, name, start, |node| node.wake_as(black_box(wake), id));
+}
+
+/// What hours add to a wake, on stores of one cell, where little else happens: a deadline wake of an id that nobody has reads no calendar; a send wake of it looks
+/// at the calendar's form; a send wake of a message that has timed out also asks whether the calendar is open. Beside them that wake on the largest stores.
+fn hours(c: &mut Criterion) {
+    let mut group = c.benchmark_group("hours");
+    for dates in [0, Calendar::MOST_DATES] {
+        let calendar = closed_on(dates);
+        let send = Wake::Send { clock_ms: 0, calendar: &calendar, unix_ms: 0 };
+        let small = timed_out(1, 0);
+        let refused = Err(Refusal::UnknownId);
+        wake(&mut group, BenchmarkId::new("deadline", dates), &small, Wake::Deadline, NOBODY, refused);
+        wake(&mut group, BenchmarkId::new("form", dates), &small, send, NOBODY, refused);
+        wake(&mut group, BenchmarkId::new("open", dates), &small, send, LEAVING, Ok(0));
+        for (fill, others) in [("full", 7), ("empty", 0)] {
+            let large = timed_out(Store::MOST_CELLS, others);
+            wake(&mut group, BenchmarkId::new(fill, dates), &large, send, LEAVING, Ok(0));
+        }
+    }
+}
+
 /// What the clock itself adds to each call.
 fn clock(c: &mut Criterion) {
     time(&mut c.benchmark_group("clock"), BenchmarkId::new("nothing", 0), &zeros(1), |stores| {
@@ -120,5 +174,5 @@ fn clock(c: &mut Criterion) {
     });
 }
 
-criterion_group!(all, calls, cells, clock);
+criterion_group!(all, calls, cells, hours, clock);
 criterion_main!(all);

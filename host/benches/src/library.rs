@@ -1,7 +1,7 @@
 //! A node of the library.
 
 use oracle::call::{Id, Packet};
-use socketlemon::{Address, Arrival, Push, Refusal, Role, Rules, Run, Store, Wake, LONGEST_RUN};
+use socketlemon::{Address, Arrival, Calendar, Push, Refusal, Role, Rules, Run, Store, Wake, LONGEST_RUN};
 
 use crate::scene::{Scene, Step};
 use crate::{KEY, PEER_KEY};
@@ -14,6 +14,7 @@ pub struct Node {
     receive: Store,
     send: Store,
     rules: Rules,
+    calendar: Calendar,
     run: Vec<u8>,
 }
 
@@ -26,6 +27,7 @@ impl Node {
             receive: Store::new(Role::Receive, cells).expect("a receive store"),
             send: Store::new(Role::Send, cells).expect("a send store"),
             rules: Rules::accept_unlisted(),
+            calendar: Calendar::always(),
             run: vec![0; LONGEST_RUN],
         }
     }
@@ -77,8 +79,13 @@ impl Node {
 
     /// Wakes the sender of a message.
     pub fn wake(&mut self, id: Id) -> Run<'_> {
-        let wake = Wake::Send { clock_ms: 0 };
+        let wake = Wake::Send { clock_ms: 0, calendar: &self.calendar, unix_ms: 0 };
         self.send.wake(wake, socketlemon::Id(id), &mut self.run).expect("the message leaves")
+    }
+
+    /// Wakes the sender of a message as it is told; gives the bytes of what it sends.
+    pub fn wake_as(&mut self, wake: Wake<'_>, id: Id) -> Result<usize, Refusal> {
+        self.send.wake(wake, socketlemon::Id(id), &mut self.run).map(|run| run.as_bytes().len())
     }
 
     /// The oldest whole message, and its read packet.

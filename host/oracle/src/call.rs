@@ -64,6 +64,22 @@ pub enum Wake {
     Deadline = 2,
 }
 
+/// The hours of a wake: a calendar's bytes, and the time that it is asked about, in milliseconds since 1970.
+#[derive(Clone, Debug, PartialEq, Eq)]
+pub struct Hours {
+    pub calendar: Vec<u8>,
+    pub unix_ms: u64,
+}
+
+impl Hours {
+    /// A calendar that is always open: from minute 0 to 1,440 on each weekday, by UTC, with no closed date.
+    pub fn always() -> Self {
+        let mut calendar = [0, 0, 5, 160].repeat(7);
+        calendar.extend([2, 208, 0]);
+        Self { calendar, unix_ms: 0 }
+    }
+}
+
 /// One call on a node.
 #[derive(Clone, Debug, PartialEq, Eq)]
 pub enum Call {
@@ -74,6 +90,7 @@ pub enum Call {
     Push(Push),
     /// A frame that arrived: 1,400 bytes.
     Packet(Packet),
+    /// A wake by the clock, within hours where it is a send wake.
     Wake(Wake, Id, u64),
     Report(Id),
     Take,
@@ -130,6 +147,7 @@ pub const SUM: u64 = 16;
 pub const NO_WORK: u64 = 20;
 pub const TOPIC_TOO_LARGE: u64 = 21;
 pub const NONE_WHOLE: u64 = 23;
+pub const BAD_CALENDAR: u64 = 26;
 
 /// What the original put out after a call.
 #[derive(Clone, Debug, PartialEq, Eq, Default)]
@@ -167,6 +185,6 @@ impl Got {
 
     /// Whether the number is one that the original does not have: such a call is outside the comparison.
     pub fn is_added_refusal(&self) -> bool {
-        matches!(self.number, 1..=3 | 6 | 7 | 12 | 22..=25)
+        matches!(self.number, 1..=3 | 6 | 7 | 12 | 22..=26)
     }
 }

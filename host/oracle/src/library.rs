@@ -2,7 +2,7 @@
 
 use std::collections::BTreeSet;
 
-use crate::call::{Address, Call, Got, Id, Packet, Push, Report, Setup, Taken, Wake, FRAME};
+use crate::call::{Address, Call, Got, Hours, Id, Packet, Push, Report, Setup, Taken, Wake, FRAME};
 
 /// What each export answers.
 #[repr(C)]
@@ -20,7 +20,8 @@ extern "C" {
         to: *const u8, rules: *const u8, rules_len: usize, known: u64, run: *mut u8, run_len: usize) -> Answer;
     fn socketlemon_push(send: *mut u8, send_len: usize, id: *const u8, reply: u64, from: *const u8, to: *const u8, topic: *const u8, topic_len: usize,
         data: *const u8, data_len: usize, created: u64, try_ms: u64, run: *mut u8, run_len: usize) -> Answer;
-    fn socketlemon_wake(send: *mut u8, send_len: usize, kind: u64, id: *const u8, clock: u64, run: *mut u8, run_len: usize) -> Answer;
+    fn socketlemon_wake(send: *mut u8, send_len: usize, kind: u64, id: *const u8, clock: u64, calendar: *const u8, calendar_len: usize,
+        unix_ms: u64, run: *mut u8, run_len: usize) -> Answer;
     fn socketlemon_report(send: *const u8, send_len: usize, id: *const u8, out: *mut u8, out_len: usize) -> Answer;
     fn socketlemon_take(recv: *mut u8, recv_len: usize, data: *mut u8, data_len: usize, run: *mut u8, run_len: usize) -> Answer;
 }
@@ -76,7 +77,13 @@ impl Node {
         self.address
     }
 
-    /// Makes a call and gives what the library answers.
+    /// The bytes of the send store.
+    #[cfg_attr(not(original), allow(dead_code))]
+    pub fn send_store(&self) -> &[u8] {
+        &self.send
+    }
+
+    /// Makes a call and gives what the library answers; a wake's calendar is always open.
     pub fn call(&mut self, call: &Call) -> Got {
         match call {
             Call::Rules(book) => {
@@ -89,7 +96,7 @@ impl Node {
             }
             Call::Push(push) => self.push(push),
             Call::Packet(packet) => self.packet(packet),
-            Call::Wake(kind, id, clock) => self.wake(*kind, id, *clock),
+            Call::Wake(kind, id, clock) => self.wake(*kind, id, *clock, &Hours::always()),
             Call::Report(id) => self.report(id),
             Call::Take => self.take(),
         }
@@ -142,7 +149,8 @@ impl Node {
         got(answer, &run)
     }
 
-    fn wake(&mut self, kind: Wake, id: &Id, clock: u64) -> Got {
+    /// Wakes a sender by these hours.
+    pub fn wake(&mut self, kind: Wake, id: &Id, clock: u64, hours: &Hours) -> Got {
         let mut run = [0; RUN_BYTES];
         let answer = unsafe {
             socketlemon_wake(
@@ -151,6 +159,9 @@ impl Node {
                 kind as u64,
                 id.as_ptr(),
                 clock,
+                hours.calendar.as_ptr(),
+                hours.calendar.len(),
+                hours.unix_ms,
                 run.as_mut_ptr(),
                 run.len(),
             )

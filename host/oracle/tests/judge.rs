@@ -46,7 +46,7 @@ mod with_the_original {
     const SEEDS: &str = "40";
 
     /// Each fault, with the call at which it must show.
-    const FAULTS: [(&str, &str); 15] = [
+    const FAULTS: [(&str, &str); 19] = [
         ("reply", "packet"),
         ("report", "report"),
         ("take", "take"),
@@ -62,6 +62,10 @@ mod with_the_original {
         ("stay-init", "packet"),
         ("restart", "packet"),
         ("skip", "packet"),
+        ("shut", "wake 1"),
+        ("stamp", "wake 1"),
+        ("open", "wake 1"),
+        ("calendar", "wake 1"),
     ];
 
     /// Why ids leave.
@@ -124,6 +128,24 @@ mod with_the_original {
             let first = text.lines().next().expect("a first line");
             let told = format!(": left out ({listed}), though {why}");
             assert!(first.contains(&told), "{fault}: {first}");
+        }
+    }
+
+    /// Faults in the hours that the library is told, with what is said of them.
+    #[test]
+    fn a_wake_in_vain_must_do_nothing() {
+        for (fault, told) in [
+            ("shut", ": woken in vain, the library answers 0 for 0, sends "),
+            (
+                "stamp",
+                ": woken in vain, the library answers 0 for 0, sends 0 packets and changes its store; at ",
+            ),
+            ("calendar", ": woken in vain, the library answers 0 for 26, sends "),
+            ("open", ": the library puts out 0 packets, the original "),
+        ] {
+            let (_, text) = oracle(&["--seeds", SEEDS, "--fault", fault]);
+            let first = text.lines().next().expect("a first line");
+            assert!(first.contains(told), "{fault}: {first}");
         }
     }
 

@@ -63,9 +63,16 @@ pub struct SendArgs {
     /// The tablet's key file; made at first use
     #[arg(long, value_name = "FILE", default_value = "tablet.key")]
     pub key: PathBuf,
-    /// After how many seconds the tablet gives up
-    #[arg(long, value_name = "SECONDS", default_value_t = 300, value_parser = clap::value_parser!(u64).range(1..=86_400))]
+    /// After how many seconds the tablet gives up, also while the hours are closed
+    #[arg(long, value_name = "SECONDS", default_value_t = 300, value_parser = clap::value_parser!(u64).range(1..=2_592_000))]
     pub deadline: u64,
+    /// The hours in which surveys may leave; without it, always.
+    #[arg(
+        long,
+        value_name = "FILE",
+        help = "The hours in which surveys may leave: lines as Mon-Fri 07:30-17:00, UTC+01:00, 2026-12-25 (closed) [default: always]"
+    )]
+    pub hours: Option<PathBuf>,
     /// How bad the link is.
     #[command(flatten)]
     pub odds: OddsArgs,

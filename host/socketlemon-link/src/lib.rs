@@ -11,6 +11,7 @@ pub mod datagram;
 pub mod failure;
 pub mod faults;
 pub mod files;
+pub mod hours;
 pub mod kept;
 pub mod keys;
 pub mod office;

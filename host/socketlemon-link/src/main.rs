@@ -3,14 +3,16 @@
 #![forbid(unsafe_code)]
 
 use clap::Parser;
+use socketlemon::Calendar;
 use socketlemon_link::cli::{self, Cli, ListenArgs, OfficeCommand, SendArgs, Side, TabletCommand};
 use socketlemon_link::failure::Failure;
+use socketlemon_link::hours;
 use socketlemon_link::keys::{Key, Known};
 use socketlemon_link::office::{Listen, Office};
 use socketlemon_link::tablet::{self, Ended, Send};
 use std::io::Write;
 use std::process::ExitCode;
-use std::time::{Duration, Instant};
+use std::time::{Duration, Instant, SystemTime};
 
 fn main() -> ExitCode {
     // a wrong usage ends here with status 2
@@ -39,11 +41,13 @@ fn say(line: &str) {
 fn send(args: SendArgs) -> Result<(), Failure> {
     let told = Send {
         survey: tablet::read_survey(&args.file)?,
+        hours: args.hours.map_or_else(|| Ok(Calendar::always()), |file| hours::read(&file))?,
         to: args.to,
         office: args.office,
         topic: args.topic,
         key: Key::of_file(&args.key)?,
         deadline: Duration::from_secs(args.deadline),
+        now: SystemTime::now,
         odds: args.odds.into(),
     };
     let start = Instant::now();

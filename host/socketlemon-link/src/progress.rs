@@ -7,7 +7,7 @@ use std::io::Write;
 /// The progress of one survey, on the error output.
 pub struct Progress {
     pieces: u64,
-    shown: Option<(State, u64)>,
+    shown: Option<(&'static str, u64)>,
     bar: Option<ProgressBar>,
 }
 
@@ -27,18 +27,18 @@ impl Progress {
         Progress { pieces, shown: None, bar }
     }
 
-    /// Shows a report, if it tells something new.
-    pub fn show(&mut self, report: &Report) {
+    /// Shows a report, if it tells something new, and whether the hours are open.
+    pub fn show(&mut self, report: &Report, is_open: bool) {
         let acked = match report.state {
             State::Init | State::Aborted => 0,
             State::InProgress => u64::from(report.acked),
             State::Received | State::Read => self.pieces,
         };
-        if self.shown == Some((report.state, acked)) {
+        let words = words(report.state, is_open);
+        if self.shown == Some((words, acked)) {
             return;
         }
-        self.shown = Some((report.state, acked));
-        let words = words(report.state);
+        self.shown = Some((words, acked));
         match &self.bar {
             Some(bar) => {
                 bar.set_position(acked);
@@ -69,8 +69,9 @@ fn line(words: &str) {
     let _ = writeln!(std::io::stderr(), "{words}");
 }
 
-fn words(state: State) -> &'static str {
+fn words(state: State, is_open: bool) -> &'static str {
     match state {
+        State::Init | State::InProgress if !is_open => "waiting for the hours",
         State::Init => "calling the office",
         State::InProgress => "sending",
         State::Received => "received",

@@ -4,13 +4,14 @@ use crate::counts::Counts;
 use crate::datagram::{Arrived, MOST};
 use crate::failure::Failure;
 use crate::faults::Odds;
+use crate::hours;
 use crate::keys::Key;
 use crate::port::Port;
 use crate::progress::Progress;
 use crate::random;
 use socketlemon::{
-    Address, Arrival, Id, Push, Report, Role, Rules, Run, State, Store, Wake, LONGEST_RUN, MOST_BYTES,
-    PACKET_RUN, PIECE,
+    Address, Arrival, Calendar, Id, Push, Report, Role, Rules, Run, State, Store, Wake, LONGEST_RUN,
+    MOST_BYTES, PACKET_RUN, PIECE,
 };
 use std::fs::File;
 use std::io::Read;
@@ -42,6 +43,10 @@ pub struct Send {
     pub key: Key,
     /// When the tablet gives up.
     pub deadline: Duration,
+    /// The hours in which the survey may leave.
+    pub hours: Calendar,
+    /// The clock of the day, which the hours go by.
+    pub now: fn() -> SystemTime,
     /// How bad the link is, in the direction of the office.
     pub odds: Odds,
 }
@@ -85,6 +90,12 @@ struct Tablet<'a> {
     answers: u64,
     /// Whether the user was told that there is no answer.
     told_silent: bool,
+    /// Since when the hours are open; nothing while they are closed.
+    open: Option<Instant>,
+    /// Whether they were closed when they were last looked at.
+    was_closed: bool,
+    /// Whether they were open at any time.
+    was_open: bool,
     /// Since when the survey is received.
     received: Option<Instant>,
 }
@@ -115,6 +126,9 @@ impl Tablet<'_> {
             counts: Counts::default(),
             answers: 0,
             told_silent: false,
+            open: None,
+            was_closed: false,
+            was_open: false,
             received: None,
         })
     }
@@ -125,6 +139,7 @@ impl Tablet<'_> {
         self.push()?;
         loop {
             let now = Instant::now();
+            self.look_at_hours(now, progress)?;
             if let Some(ended) = self.ended(now, progress)? {
                 return Ok(ended);
             }
@@ -143,7 +158,7 @@ impl Tablet<'_> {
     /// How the survey has ended, if it has. Not to have arrived at the deadline is a failure.
     fn ended(&mut self, now: Instant, progress: &mut Progress) -> Result<Option<Ended>, Failure> {
         let report = self.report()?;
-        progress.show(&report);
+        progress.show(&report, self.open.is_some());
         match report.state {
             State::Read => Ok(Some(Ended::Read)),
             State::Received => {
@@ -153,16 +168,53 @@ impl Tablet<'_> {
             _ if now >= self.start + self.told.deadline => {
                 self.wake(Wake::Deadline)?;
                 self.port.release();
-                progress.show(&self.report()?);
+                progress.show(&self.report()?, self.open.is_some());
                 Err(self.why_not(&report))
             }
             _ => Ok(None),
         }
     }
 
+    /// Notes whether the hours are open. Tells the user when they close, and starts again when they open.
+    fn look_at_hours(&mut self, now: Instant, progress: &mut Progress) -> Result<(), Failure> {
+        let unix_ms = self.unix_ms();
+        let is_open = self.told.hours.is_open(unix_ms);
+        self.open = if is_open { self.open.or(Some(now)) } else { None };
+        self.was_open |= is_open;
+        let was_closed = std::mem::replace(&mut self.was_closed, !is_open);
+        if is_open && was_closed {
+            self.start_again()?;
+        }
+        if !is_open && !was_closed && self.received.is_none() {
+            let left = (self.start + self.told.deadline).saturating_duration_since(now);
+            progress.say(&hours::closed(&self.told.hours, unix_ms, left));
+        }
+        Ok(())
+    }
+
+    /// Announces the survey anew, under another id: while the hours were closed, the office may have forgotten it.
+    /// Where all its pieces have arrived, only a receipt is missing, and a second survey would be one too many.
+    fn start_again(&mut self) -> Result<(), Failure> {
+        let report = self.report()?;
+        let all = self.pieces();
+        if report.state != State::InProgress || (all > 0 && usize::from(report.acked) == all) {
+            return Ok(());
+        }
+        // the first tells the office, the second makes room
+        self.wake(Wake::Deadline)?;
+        self.wake(Wake::Deadline)?;
+        self.id = Id(random::bytes()?);
+        self.push()
+    }
+
+    fn pieces(&self) -> usize {
+        (self.told.survey.len() + PIECE - 1) / PIECE
+    }
+
     /// Tells the user once if nobody has answered for a while.
     fn tell_silence(&mut self, now: Instant, progress: &mut Progress) {
-        if self.told_silent || self.answers > 0 || now < self.start + FIRST_WORD {
+        let is_silent = self.answers == 0 && self.open.map_or(false, |open| now >= open + FIRST_WORD);
+        if self.told_silent || !is_silent {
             return;
         }
         self.told_silent = true;
@@ -175,7 +227,6 @@ impl Tablet<'_> {
 
     fn push(&mut self) -> Result<(), Failure> {
         let told = self.told;
-        let created = SystemTime::now().duration_since(UNIX_EPOCH).unwrap_or_default();
         let push = Push {
             id: self.id,
             reply: false,
@@ -183,7 +234,7 @@ impl Tablet<'_> {
             to: told.office,
             topic: told.topic.as_bytes(),
             data: &told.survey,
-            created_ms: millis(created),
+            created_ms: self.unix_ms(),
             try_ms: millis(told.deadline),
         };
         let mut run = [0; LONGEST_RUN];
@@ -195,12 +246,18 @@ impl Tablet<'_> {
         Ok(())
     }
 
-    /// Sends what is due, by a clock that starts with the survey and never goes back.
+    /// Sends what is due, by a clock that starts with the survey and never goes back, if the hours are open.
     fn wake_send(&mut self) -> Result<(), Failure> {
-        self.wake(Wake::Send { clock_ms: millis(self.start.elapsed()) })
+        let (clock_ms, unix_ms) = (millis(self.start.elapsed()), self.unix_ms());
+        self.wake(Wake::Send { clock_ms, calendar: &self.told.hours, unix_ms })
     }
 
-    fn wake(&mut self, wake: Wake) -> Result<(), Failure> {
+    /// The time of the day, in milliseconds since 1970 in UTC.
+    fn unix_ms(&self) -> u64 {
+        millis((self.told.now)().duration_since(UNIX_EPOCH).unwrap_or_default())
+    }
+
+    fn wake(&mut self, wake: Wake<'_>) -> Result<(), Failure> {
         let mut run = [0; LONGEST_RUN];
         let out = self
             .send
@@ -246,8 +303,11 @@ impl Tablet<'_> {
     fn why_not(&self, report: &Report) -> Failure {
         let Send { to, topic, deadline, .. } = self.told;
         let seconds = deadline.as_secs_f64();
-        let all = (self.told.survey.len() + PIECE - 1) / PIECE;
+        let all = self.pieces();
         let mut words = match report.state {
+            _ if !self.was_open => {
+                format!("the hours did not open within {seconds} s, so nothing of the survey was sent")
+            }
             State::Init => format!(
                 "nobody answered at {to} within {seconds} s: is the office there, is {} its address, and does it take the topic {topic:?} from {}?",
                 self.told.office, self.own
@@ -259,6 +319,9 @@ impl Tablet<'_> {
             ),
             _ => format!("the office stopped answering: {} of {all} pieces were acknowledged within {seconds} s", report.acked),
         };
+        if self.was_open && self.open.is_none() {
+            words.push_str(" (the hours had closed)");
+        }
         if let Some(trouble) = self.port.trouble() {
             words.push_str(&format!(" (the last datagram could not be sent: {trouble})"));
         }

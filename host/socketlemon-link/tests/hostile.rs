@@ -3,7 +3,9 @@
 mod common;
 
 use common::{introduce, run, survey, tablet, Folder, Office};
-use socketlemon::{Address, Arrival, Id, Push, Role, Rules, Run, State, Store, Wake, FRAME, LONGEST_RUN};
+use socketlemon::{
+    Address, Arrival, Calendar, Id, Push, Role, Rules, Run, State, Store, Wake, FRAME, LONGEST_RUN,
+};
 use socketlemon_link::datagram::{self, Arrived};
 use socketlemon_link::keys::Key;
 use socketlemon_link::random::Seeded;
@@ -63,11 +65,12 @@ impl Tablet {
 
     /// Sends init and chunk, which are acknowledged. Gives them, and the done that is next.
     fn send_all(&mut self, voice: &Voice) -> [Vec<u8>; 3] {
+        let calendar = Calendar::always();
         let mut packets = [self.init.clone(), Vec::new(), Vec::new()];
         for number in 0..2 {
             let acknowledgement = self.ask(voice, &packets[number]).expect("an acknowledgement");
             self.take(&acknowledgement);
-            let wake = Wake::Send { clock_ms: 100 * number as u64 };
+            let wake = Wake::Send { clock_ms: 100 * number as u64, calendar: &calendar, unix_ms: 0 };
             packets[number + 1] = only(self.send.wake(wake, ID, &mut [0; LONGEST_RUN]).expect("wake"));
         }
         packets

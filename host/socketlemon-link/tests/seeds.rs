@@ -6,8 +6,8 @@ mod common;
 
 use common::survey;
 use socketlemon::{
-    Address, Answer, Arrival, Id, Packet, Push, Refusal, Role, Rules, Run, State, Store, Wake, LONGEST_RUN,
-    MOST_BYTES, PACKET_RUN,
+    Address, Answer, Arrival, Calendar, Id, Packet, Push, Refusal, Role, Rules, Run, State, Store, Wake,
+    LONGEST_RUN, MOST_BYTES, PACKET_RUN,
 };
 use socketlemon_link::datagram::{self, Arrived};
 use socketlemon_link::faults::{Faults, Odds};
@@ -73,7 +73,9 @@ impl Side {
 
     fn wake(&mut self, clock_ms: u64) {
         let mut run = [0; LONGEST_RUN];
-        let out = self.send.wake(Wake::Send { clock_ms }, ID, &mut run).expect("wake");
+        let calendar = Calendar::always();
+        let wake = Wake::Send { clock_ms, calendar: &calendar, unix_ms: clock_ms };
+        let out = self.send.wake(wake, ID, &mut run).expect("wake");
         self.put_all(out.as_bytes());
     }
 }

@@ -53,6 +53,9 @@ extern "C" {
         kind: u64,
         id: *const u8,
         clock: u64,
+        calendar: *const u8,
+        calendar_len: usize,
+        unix_ms: u64,
         run: *mut u8,
         run_len: usize,
     ) -> Answer;
@@ -148,10 +151,29 @@ pub(crate) fn push(
     }
 }
 
-pub(crate) fn wake(send: &mut [u8], kind: u64, id: &[u8; 8], clock: u64, run: &mut [u8]) -> Answer {
+pub(crate) fn wake(
+    send: &mut [u8],
+    kind: u64,
+    id: &[u8; 8],
+    clock: u64,
+    calendar: &[u8],
+    unix_ms: u64,
+    run: &mut [u8],
+) -> Answer {
     // SAFETY: live slices with their lengths, the id of 8 bytes; `send` and `run` are borrowed mutably.
     unsafe {
-        socketlemon_wake(send.as_mut_ptr(), send.len(), kind, id.as_ptr(), clock, run.as_mut_ptr(), run.len())
+        socketlemon_wake(
+            send.as_mut_ptr(),
+            send.len(),
+            kind,
+            id.as_ptr(),
+            clock,
+            calendar.as_ptr(),
+            calendar.len(),
+            unix_ms,
+            run.as_mut_ptr(),
+            run.len(),
+        )
     }
 }
 

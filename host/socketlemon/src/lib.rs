@@ -7,7 +7,7 @@
 //! # A message from a tablet to the office
 //!
 //! ```
-//! use socketlemon::{Address, Arrival, Id, Packet, Push, Refusal, Role, Rules, State, Store, Wake, FRAME, LONGEST_RUN};
+//! use socketlemon::{Address, Arrival, Calendar, Id, Packet, Push, Refusal, Role, Rules, State, Store, Wake, FRAME, LONGEST_RUN};
 //!
 //! // each side has two stores and an address, which comes from its key
 //! struct Side { receive: Store, send: Store, rules: Rules }
@@ -41,6 +41,10 @@
 //!     try_ms: 300_000,
 //! };
 //!
+//! // messages may leave at any time here; see `Calendar` for hours
+//! let calendar = Calendar::always();
+//! let unix_ms = 1_794_900_000_000;
+//!
 //! // the init, then a wake for the piece and one for the done; each is answered at once here
 //! let mut run = [0; LONGEST_RUN];
 //! let mut out = tablet.send.push(&push, &mut run)?.as_bytes().to_vec();
@@ -50,7 +54,8 @@
 //!             tablet.packet(reply)?;
 //!         }
 //!     }
-//!     out = tablet.send.wake(Wake::Send { clock_ms }, push.id, &mut run)?.as_bytes().to_vec();
+//!     let wake = Wake::Send { clock_ms, calendar: &calendar, unix_ms: unix_ms + clock_ms };
+//!     out = tablet.send.wake(wake, push.id, &mut run)?.as_bytes().to_vec();
 //! }
 //! assert_eq!(tablet.send.report(push.id)?.state, State::Received);
 //!
@@ -68,6 +73,8 @@
 #![deny(unsafe_code)]
 
 mod address;
+mod calendar;
+mod date;
 #[allow(unsafe_code)]
 mod ffi;
 mod record;
@@ -78,6 +85,8 @@ mod run;
 mod store;
 
 pub use address::{Address, Id};
+pub use calendar::{Calendar, CalendarError, LocalTime, Offset, Window};
+pub use date::{Date, Weekday};
 pub use record::{Kind, Record, Taken};
 pub use refusal::Refusal;
 pub use report::{Report, State};

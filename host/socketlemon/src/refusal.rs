@@ -57,12 +57,14 @@ pub enum Refusal {
     Clock,
     /// 25: a store is not sound for its role, or cannot be made so.
     UnsoundStore,
+    /// 26: the calendar is malformed. A [`Calendar`](crate::Calendar) never is.
+    BadCalendar,
     /// A number that this crate has no name for. The library has none such; a newer one might.
     Other(u64),
 }
 
 /// Each refusal with its trade word; the first is number 1.
-const TABLE: [(Refusal, &str); 25] = [
+const TABLE: [(Refusal, &str); 26] = [
     (Refusal::BadFrame, "bad frame"),
     (Refusal::ShortOutput, "short output"),
     (Refusal::BadRules, "bad rules"),
@@ -88,6 +90,7 @@ const TABLE: [(Refusal, &str); 25] = [
     (Refusal::NoneWhole, "none whole"),
     (Refusal::Clock, "clock"),
     (Refusal::UnsoundStore, "unsound store"),
+    (Refusal::BadCalendar, "bad calendar"),
 ];
 
 impl Refusal {
@@ -100,7 +103,7 @@ impl Refusal {
         Some(row.map_or(Refusal::Other(number), |(refusal, _)| *refusal))
     }
 
-    /// Its number, 1 to 25.
+    /// Its number, 1 to 26.
     pub fn number(self) -> u64 {
         match (self, self.row()) {
             (Refusal::Other(number), _) => number,
@@ -129,7 +132,7 @@ mod tests {
     use super::*;
 
     /// The trade words of docs/PROTOCOL.md, copied from there and not from the code.
-    const WORDS: [&str; 25] = [
+    const WORDS: [&str; 26] = [
         "bad frame",
         "short output",
         "bad rules",
@@ -155,6 +158,7 @@ mod tests {
         "none whole",
         "clock",
         "unsound store",
+        "bad calendar",
     ];
 
     #[test]
@@ -174,7 +178,7 @@ mod tests {
 
     #[test]
     fn other_numbers_have_words_too() {
-        for n in [26, 255, u64::MAX] {
+        for n in [27, 255, u64::MAX] {
             let refusal = Refusal::from_number(n).expect("a refusal");
             assert_eq!(refusal, Refusal::Other(n));
             assert_eq!(refusal.number(), n);

@@ -2,13 +2,17 @@
 
 use crate::record::RECORD;
 use crate::report::REPORT;
-use crate::{ffi, Address, Id, Record, Refusal, Report, Rules, Run, Taken};
+use crate::{ffi, Address, Calendar, Id, Record, Refusal, Report, Rules, Run, Taken};
 
 const HEAD: usize = 16;
 const RECORDS: usize = 8;
 const CELL: usize = 1_380;
 const CELLS_PLACE: usize = 5;
 const ROLE_PLACE: usize = 6;
+
+/// The kinds of wake.
+const SEND: u64 = 1;
+const DEADLINE: u64 = 2;
 
 /// What a store is for.
 #[derive(Clone, Copy, Debug, PartialEq, Eq, Hash)]
@@ -147,12 +151,16 @@ impl Store {
     }
 
     /// Wakes a message of the send store. The run buffer has at least [`WAKE_RUN`](crate::WAKE_RUN) bytes.
-    pub fn wake<'r>(&mut self, wake: Wake, id: Id, run: &'r mut [u8]) -> Result<Run<'r>, Refusal> {
-        let (kind, clock) = match wake {
-            Wake::Send { clock_ms } => (1, clock_ms),
-            Wake::Deadline => (2, 0),
+    ///
+    /// Outside the hours of its calendar a [`Wake::Send`] sends nothing and changes nothing: the run is empty.
+    pub fn wake<'r>(&mut self, wake: Wake<'_>, id: Id, run: &'r mut [u8]) -> Result<Run<'r>, Refusal> {
+        let bytes = &mut self.bytes;
+        let answer = match wake {
+            Wake::Send { clock_ms, calendar, unix_ms } => {
+                ffi::wake(bytes, SEND, &id.0, clock_ms, calendar.as_bytes(), unix_ms, run)
+            }
+            Wake::Deadline => ffi::wake(bytes, DEADLINE, &id.0, 0, &[], 0, run),
         };
-        let answer = ffi::wake(&mut self.bytes, kind, &id.0, clock, run);
         done(answer)?;
         Ok(written(run, answer))
     }
@@ -233,12 +241,16 @@ pub struct Push<'a> {
 
 /// Why a message is woken.
 #[derive(Clone, Copy, Debug, PartialEq, Eq)]
-pub enum Wake {
-    /// Kind 1: what is due is sent. Where the clock went back, no piece is due again.
+pub enum Wake<'a> {
+    /// Kind 1: what is due is sent, within the calendar's hours. Where the clock went back, no piece is due again.
     Send {
-        /// The clock, in milliseconds.
+        /// The clock that says what is due, in milliseconds.
         clock_ms: u64,
+        /// When messages may leave.
+        calendar: &'a Calendar,
+        /// The time that the calendar is asked about: milliseconds since 1970 in UTC.
+        unix_ms: u64,
     },
-    /// Kind 2: the first lets the deadline pass, the second drops the message.
+    /// Kind 2: the first lets the deadline pass, the second drops the message. It reads no calendar.
     Deadline,
 }

@@ -2,8 +2,8 @@
 
 mod common;
 
-use common::{message, push, Side, ID};
-use socketlemon::{Address, Id, Kind, Packet, Record, Refusal, Rules, FRAME, LONGEST_RUN};
+use common::{message, push, send_at, Side, ID};
+use socketlemon::{Address, Calendar, Id, Kind, Packet, Record, Refusal, Rules, FRAME, LONGEST_RUN};
 
 const INIT: u8 = 0x80;
 const DONE: u8 = 0x40;
@@ -246,7 +246,6 @@ fn sum(data: &[u8]) -> Vec<u8> {
         let packet = Packet { from: far.address, to: near.address, bytes: &made.frame[..length] };
         near.packet(packet, &mut run).expect("an acknowledgement of the peer");
     }
-    let wake = socketlemon::Wake::Send { clock_ms: 0 };
-    let done = near.send.wake(wake, ID, &mut run).expect("wake");
+    let done = near.send.wake(send_at(0, &Calendar::always()), ID, &mut run).expect("wake");
     done.packets().next().expect("a done").bytes[20..52].to_vec()
 }

@@ -1,11 +1,12 @@
-//! Each of the 25 refusals, brought about by a call; none of them changes a store or a buffer.
+//! Each refusal but the 26th, brought about by a call; none of them changes a store or a buffer. A `Calendar` is never refused:
+//! the tests of its module bring about 26, with bytes that are none.
 
 mod common;
 
-use common::{message, push, Side, ID};
+use common::{message, push, send_at, Side, ID};
 use socketlemon::{
-    Address, Arrival, Id, Packet, Push, Refusal, Rules, Wake, FRAME, LONGEST_RUN, PACKET_RUN, PUSH_RUN,
-    TAKE_RUN, WAKE_RUN,
+    Address, Arrival, Calendar, Id, Packet, Push, Refusal, Rules, Wake, FRAME, LONGEST_RUN, PACKET_RUN,
+    PUSH_RUN, TAKE_RUN, WAKE_RUN,
 };
 
 const INIT: u8 = 0x80;
@@ -62,7 +63,7 @@ fn take(side: &mut Side, run_bytes: usize) -> Option<Refusal> {
 }
 
 /// The refusal of a wake.
-fn wake(side: &mut Side, wake: Wake, run_bytes: usize) -> Option<Refusal> {
+fn wake(side: &mut Side, wake: Wake<'_>, run_bytes: usize) -> Option<Refusal> {
     call(side, run_bytes, |side, run| side.send.wake(wake, ID, run).map(|_| ())).err()
 }
 
@@ -99,7 +100,7 @@ fn frames_and_outputs() {
     assert_eq!(hand(&mut side, &packet(ID, DONE, &[0], &EMPTY_SUM)), Ok(34 + 52));
     assert_eq!(take(&mut side, TAKE_RUN - 1), Some(Refusal::ShortOutput));
     let mut tablet = tablet();
-    assert_eq!(wake(&mut tablet, Wake::Send { clock_ms: 0 }, WAKE_RUN - 1), Some(Refusal::ShortOutput));
+    assert_eq!(wake(&mut tablet, send_at(0, &Calendar::closed()), WAKE_RUN - 1), Some(Refusal::ShortOutput));
     assert_eq!(hand(&mut tablet, &packet(ID, 0, &[], &[])), Err(Refusal::NoWork));
     assert_eq!(hand(&mut tablet, &packet(ID, READ | ACK, &[], &[])), Err(Refusal::NoWork));
 }

@@ -2,8 +2,8 @@
 
 mod common;
 
-use common::{message, push, Side, ID};
-use socketlemon::{Kind, Packet, Refusal, Report, Role, Run, State, Store, Wake, LONGEST_RUN};
+use common::{message, push, send_at, Side, ID};
+use socketlemon::{Calendar, Kind, Packet, Refusal, Report, Role, Run, State, Store, Wake, LONGEST_RUN};
 
 /// Sends a message over a link that loses every `lose`th packet, and hands the packets of a run over from the last to the first. Gives the clock at the end.
 fn send(tablet: &mut Side, office: &mut Side, data: &[u8], lose: usize) -> u64 {
@@ -28,8 +28,8 @@ fn send(tablet: &mut Side, office: &mut Side, data: &[u8], lose: usize) -> u64 {
         if tablet.send.report(ID).expect("report").state == State::Received {
             return clock_ms;
         }
-        let wake = Wake::Send { clock_ms };
-        out = tablet.send.wake(wake, ID, &mut run).expect("wake").as_bytes().to_vec();
+        let calendar = Calendar::always();
+        out = tablet.send.wake(send_at(clock_ms, &calendar), ID, &mut run).expect("wake").as_bytes().to_vec();
     }
     panic!("a message of {} bytes did not arrive in a minute", data.len());
 }
@@ -93,7 +93,7 @@ fn a_report_counts_the_pieces() {
     assert!(answer.run.is_empty());
     assert_eq!(report(&tablet), Report { state: State::InProgress, started: 2, ..start });
 
-    let out = tablet.send.wake(Wake::Send { clock_ms: 0 }, ID, &mut run).expect("wake");
+    let out = tablet.send.wake(send_at(0, &Calendar::always()), ID, &mut run).expect("wake");
     assert_eq!(report(&tablet), Report { state: State::InProgress, sent: 2, ..start });
     let second = out.packets().nth(1).expect("a second piece");
     let ack = office.packet(second, &mut reply).expect("chunk").run;

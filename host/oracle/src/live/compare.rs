@@ -49,7 +49,8 @@ fn share(sequences: &Sequences, nth: usize, threads: usize, differs: &AtomicU64)
         if seed > differs.load(Relaxed) {
             break;
         }
-        if let Err(difference) = one(seed, sequences.steps, &mut coverage, sequences.fault) {
+        let hours = Some(Rng::new(!seed));
+        if let Err(difference) = one(seed, sequences.steps, hours, &mut coverage, sequences.fault) {
             differs.fetch_min(seed, Relaxed);
             return (coverage, Some((seed, difference)));
         }
@@ -57,12 +58,22 @@ fn share(sequences: &Sequences, nth: usize, threads: usize, differs: &AtomicU64)
     (coverage, None)
 }
 
-/// Runs one seed and gives its list.
-pub fn one(seed: u64, steps: u64, coverage: &mut Coverage, fault: Option<Fault>) -> Result<List, Difference> {
+/// Runs one seed and gives its list. Hours come from numbers of their own, so that with none of them the steps
+/// are the same, and all hours are open.
+pub fn one(
+    seed: u64,
+    steps: u64,
+    hours: Option<Rng>,
+    coverage: &mut Coverage,
+    fault: Option<Fault>,
+) -> Result<List, Difference> {
     let mut rng = Rng::new(seed);
     let (setup, clock) = Plan::start(&mut rng);
     let mut plan = Plan::new(rng, stack::address(&setup.key));
     let mut run = Run::new(setup, clock, coverage, fault)?;
+    if let Some(hours) = hours {
+        run = run.with_hours(hours);
+    }
     run.step(plan.first())?;
     for _ in 0..steps {
         let step = plan.next(&run.tally, run.clock);

@@ -5,6 +5,7 @@ use std::collections::{BTreeMap, BTreeSet};
 use crate::call::{Call, Packet, Said, Wake, Woke, CLOSED_TOPIC, TOPIC_TOO_LARGE};
 use crate::frame::{self, Kind};
 use crate::live::left::Listed;
+use crate::live::run::{BY_HOURS, KEPT_BACK, MALFORMED, OUTSIDE};
 use crate::live::tally::{Label, Tally};
 
 #[derive(Default)]
@@ -30,7 +31,7 @@ pub struct Coverage {
 pub const BOUNDARY_LENGTHS: [usize; 11] = [0, 1, 249, 250, 251, 1299, 1300, 1301, 1550, 32_499, 32_500];
 
 /// What a full run must have met at least once.
-const NEEDED: [&str; 23] = [
+const NEEDED: [&str; 27] = [
     "push",
     "push, topic too large",
     "reply pushed",
@@ -54,6 +55,10 @@ const NEEDED: [&str; 23] = [
     "address",
     EQUAL_INIT,
     REFUSED_INIT,
+    BY_HOURS,
+    OUTSIDE,
+    KEPT_BACK,
+    MALFORMED,
 ];
 
 const EQUAL_INIT: &str = "init again, before any piece";

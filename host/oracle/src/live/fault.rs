@@ -1,9 +1,10 @@
 //! Deliberate faults, in what the judge is told to expect or in what the library is made to do: each must be
 //! found.
 
-use crate::call::{Call, Got, Packet, Said, Wake, Woke, FRAME, SHORT_PIECE};
+use crate::call::{Call, Got, Hours, Packet, Said, Wake, Woke, FRAME, SHORT_PIECE};
 use crate::frame;
 use crate::library::Node;
+use crate::live::hours::{says, Says};
 use crate::live::left::{acknowledged, Again, Listed, Short};
 use crate::live::tally::Tally;
 
@@ -43,10 +44,18 @@ pub enum Fault {
     Restart,
     /// The library acknowledges any other init behind a piece and does nothing.
     Skip,
+    /// The library is always open where its calendar is shut.
+    Shut,
+    /// The same, but it sends nothing: only its store changes.
+    Stamp,
+    /// The library never is where its calendar is open for some hours.
+    Open,
+    /// The library is always open where its calendar is malformed.
+    Calendar,
 }
 
 /// Each fault by the name that the command line knows.
-pub const FAULTS: [(&str, Fault); 15] = [
+pub const FAULTS: [(&str, Fault); 19] = [
     ("reply", Fault::Reply),
     ("report", Fault::Report),
     ("take", Fault::Take),
@@ -62,6 +71,10 @@ pub const FAULTS: [(&str, Fault); 15] = [
     ("stay-init", Fault::StayInit),
     ("restart", Fault::Restart),
     ("skip", Fault::Skip),
+    ("shut", Fault::Shut),
+    ("stamp", Fault::Stamp),
+    ("open", Fault::Open),
+    ("calendar", Fault::Calendar),
 ];
 
 impl Fault {
@@ -100,6 +113,20 @@ impl Fault {
             Self::LeaveEarly if again().is_some_and(|init| init.is_equal()) => Some(Listed::EqualInit),
             Self::StayInit => listed.filter(|why| *why != Listed::EqualInit),
             _ => listed,
+        }
+    }
+
+    /// Spoils the hours that the library is told.
+    pub fn hours(self, hours: Hours) -> Hours {
+        let always = Hours::always();
+        match (self, says(&hours)) {
+            (Self::Shut | Self::Stamp, Says::Shut) | (Self::Calendar, Says::Malformed) => always,
+            (Self::Open, Says::Open) if hours.calendar != always.calendar => {
+                let mut calendar = always.calendar;
+                calendar[..28].fill(0);
+                Hours { calendar, ..always }
+            }
+            _ => hours,
         }
     }
 

@@ -4,6 +4,7 @@ mod clock;
 pub mod compare;
 pub mod coverage;
 pub mod fault;
+pub mod hours;
 mod left;
 mod plan;
 mod rng;

@@ -10,12 +10,17 @@ use crate::list::{Entry, List};
 use crate::live::clock;
 use crate::live::coverage::Coverage;
 use crate::live::fault::Fault;
+use crate::live::hours::Source;
 use crate::live::left::{Left, Listed};
+use crate::live::rng::Rng;
 use crate::live::stack::{self, Original};
 use crate::live::tally::{Due, Tally};
 use crate::live::words;
 
+mod in_vain;
 mod unjudged;
+
+pub use in_vain::{BY_HOURS, KEPT_BACK, MALFORMED, OUTSIDE};
 
 /// What is done to both sides.
 pub enum Step {
@@ -50,12 +55,14 @@ pub struct Run<'a> {
     end: Option<(usize, Listed)>,
     /// What the library put out in this step for ids that have left.
     unjudged: Vec<Packet>,
+    /// The hours of wakes.
+    hours: Source,
     coverage: &'a mut Coverage,
     fault: Option<Fault>,
 }
 
 impl<'a> Run<'a> {
-    /// Both sides fresh, at this time.
+    /// Both sides fresh, at this time. Hours are always open, until they are drawn.
     pub fn new(
         setup: Setup,
         clock: u64,
@@ -89,9 +96,15 @@ impl<'a> Run<'a> {
             left: Left::default(),
             end: None,
             unjudged: Vec::new(),
+            hours: Source::Always,
             coverage,
             fault,
         })
+    }
+
+    /// Draws the hours of wakes from here on.
+    pub fn with_hours(self, rng: Rng) -> Self {
+        Self { hours: Source::Drawn(rng), ..self }
     }
 
     /// The calls so far, with what the original put out; up to the one at which the first id left.
@@ -337,8 +350,12 @@ impl<'a> Run<'a> {
     }
 
     fn wake(&mut self, kind: Wake, id: Id, packets: Vec<Packet>) -> Result<(), Difference> {
+        let (hours, was_shut) = self.draw_hours(kind, id)?;
         let call = Call::Wake(kind, id, self.clock);
-        let got = self.node.call(&call);
+        let got = self.node.wake(kind, &id, self.clock, &hours);
+        if was_shut && !got.packets.is_empty() {
+            self.coverage.saw(KEPT_BACK);
+        }
         let mut said = Said { packets, ..Said::default() };
         if let Some(fault) = self.fault {
             fault.spoil(&call, &mut said);

@@ -1,4 +1,5 @@
 //! The lists in crates/replay/data: sequences for which the original's answers are kept.
+//! Wakes are by a calendar that is always open, as in the program that replays the lists.
 //! A list ends where the first id leaves the comparison: from there on the library's answers are its own.
 
 use std::collections::BTreeSet;
@@ -26,7 +27,7 @@ pub fn samples() -> Result<Vec<(String, List)>, Difference> {
     let mut samples = Vec::from(by_hand.map(|(name, list)| (name.to_string(), list)));
     let mut wanted = BTreeSet::from(NUMBERS);
     for seed in 1.. {
-        let list = compare::one(seed, RANDOM_STEPS, &mut Coverage::default(), None)?;
+        let list = compare::one(seed, RANDOM_STEPS, None, &mut Coverage::default(), None)?;
         let numbers: BTreeSet<u64> = list.entries.iter().map(|entry| entry.said.number).collect();
         if !wanted.is_disjoint(&numbers) && list.end.is_none() && list.write().len() <= RANDOM_BYTES {
             wanted.retain(|number| !numbers.contains(number));

@@ -114,6 +114,7 @@ impl Tally {
     }
 
     /// Whether the call gives a reason to answer with this number, which the original does not have.
+    /// A wake that is compared is within hours, so its calendar gives none.
     pub fn has_reason(&self, call: &Call, number: u64) -> bool {
         match call {
             Call::Push(push) => self.push_reason(push, number),
@@ -256,7 +257,7 @@ fn cells(push: &Push) -> usize {
 #[cfg(test)]
 mod tests {
     use super::*;
-    use crate::call::FRAME;
+    use crate::call::{Wake, BAD_CALENDAR, FRAME};
 
     fn tally() -> Tally {
         Tally::new(&Setup { key: [0; 32], recv_cells: 2, send_cells: 3 })
@@ -297,6 +298,8 @@ mod tests {
             tally.pushed(&push(id, 0), 0);
         }
         assert!(tally.has_reason(&Call::Push(push(9, 0)), 7));
+        let wake = Call::Wake(Wake::Send, [1; 8], 0);
+        assert!([2, 8, 20, BAD_CALENDAR].iter().all(|number| !tally.has_reason(&wake, *number)));
     }
 
     #[test]

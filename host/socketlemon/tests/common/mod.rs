@@ -1,6 +1,8 @@
 //! Two sides, each with its stores and address, and packets that are made by hand.
 
-use socketlemon::{Address, Answer, Arrival, Id, Packet, Push, Refusal, Role, Rules, Store, FRAME};
+use socketlemon::{
+    Address, Answer, Arrival, Calendar, Id, Packet, Push, Refusal, Role, Rules, Store, Wake, FRAME,
+};
 
 pub const ID: Id = Id(*b"house 12");
 
@@ -44,6 +46,11 @@ pub fn push<'a>(from: &Side, to: &Side, data: &'a [u8]) -> Push<'a> {
         created_ms: 5_000,
         try_ms: 60_000,
     }
+}
+
+/// A send wake by a calendar, at a clock that started in 1970.
+pub fn send_at(clock_ms: u64, calendar: &Calendar) -> Wake<'_> {
+    Wake::Send { clock_ms, calendar, unix_ms: clock_ms }
 }
 
 /// A message in which each piece is different.

@@ -43,7 +43,7 @@ def protocol():
 
 
 def answer():
-    found = re.findall(r"^pub const (\w+): u64 = (\d+);$", text("crates/rows/src/answer.rt"), re.M)
+    found = re.findall(r"^pub const (\w+): u64 = (\d+);$", text("crates/answer/src/lib.rt"), re.M)
     return numbered((number, name) for name, number in found if name != "DONE")
 
 
@@ -126,7 +126,7 @@ def main():
         check(what, "; ".join(lists) or ("" if sorted(found) == wanted else "something stands twice"))
 
     check("docs/PROTOCOL.md", "" if count and [number for number, _ in table] == list(range(1, count + 1)) else "numbers do not rise from 1")
-    compare("crates/rows/src/answer.rt", answer, upper)
+    compare("crates/answer/src/lib.rt", answer, upper)
     compare("crates/machine/specs/Codes.antt", codes, lambda word: camel(IN_DEFINITIONS.get(word, word)))
     compare(f"{RUST}, the enum", rust_enum, pascal)
     compare(f"{RUST}, the table", rust_table, lambda word: f"{pascal(word)}, {word}")

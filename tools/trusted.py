@@ -120,7 +120,8 @@ def reached(found):
             continue
         done.add(item)
         if name.startswith("declared."):
-            enums.add((crate, *name.split(".")[1:3]))
+            path = name.split(".")[1:]
+            enums.add((crate, *(path if path[0][0].islower() else ["lib"] + path)[:2]))  # a type of the crate's root has no module
             continue
         module = found[crate, name]
         if word not in module.kinds:  # a constructor or a field: its type is what is needed
@@ -131,7 +132,7 @@ def reached(found):
     return done, enums
 
 
-ORDER = ["octets", "blake3", "packet", "topic", "calendar", "address", "machine", "ledger"]
+ORDER = ["octets", "answer", "blake3", "packet", "topic", "calendar", "address", "machine", "ledger"]
 
 
 def page(found, done, enums):

@@ -7,6 +7,8 @@ use lib.Dec.{eqb, leb}
 use lib.Bits.{bitOr}
 use lib.Count.{ones}
 use Rattle.octets.specs.Octets.{part, put}
+use Rattle.answer.specs.declared.Answer.{Answer}
+use Rattle.answer.specs.Answers.{bare}
 use Rattle.blake3.specs.Tree.{blake3}
 use Rattle.machine.specs.Codes.{badFrame, shortOutput}
 use Rattle.machine.specs.Layout.{addressWidth}
@@ -20,7 +22,7 @@ unfoldable pub addressBytes : List ℕ → List ℕ
 addressBytes key = (firstByte (getD (blake3 key) 0 0) ∷ []) ++ part (blake3 key) 1 15
 
 pub record AddressOutcome : Type 0 where
-  pub number : ℕ
+  pub answer : Answer
   pub out : List ℕ
 
 -- row 1: a key's bytes
@@ -31,5 +33,5 @@ keyBytes = 32
 unfoldable pub addressOf : List ℕ → List ℕ → AddressOutcome
 addressOf key out =
     cond (eqb (length key) keyBytes)
-    (cond (leb addressWidth (length out)) (record { number = 0; out = put out 0 (addressBytes key) }) (record { number = shortOutput; out = out }))
-    (record { number = badFrame; out = out })
+    (cond (leb addressWidth (length out)) (record { answer = bare 0; out = put out 0 (addressBytes key) }) (record { answer = bare shortOutput; out = out }))
+    (record { answer = bare badFrame; out = out })

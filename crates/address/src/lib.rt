@@ -1,8 +1,8 @@
 // A node's address, made of its public key: a port of `PublicKey::address`.
 
-use rows::answer;
 ghost use mathlib.Core.Path.{_≡_};
 ghost use Prim.Native.Nat.{_<_};
+ghost use Rattle.answer.specs.Answers.{bare};
 ghost use Rattle.address.specs.Address.{firstByte, addressOf};
 
 // What an address starts with: 4, and the parity of the sum's first byte.
@@ -16,7 +16,7 @@ fn first_byte(x: u8) -> u8
 // buffer under 16, else 0.
 pub fn address(key: &[u8], out: &mut [u8]) -> u64
     ensures { λ r.
-        ⌜ (record { number = r; out = now (out .exit) })
+        ⌜ (record { answer = bare r; out = now (out .exit) })
         ≡ addressOf (now (key .entry)) (now (out .entry)) ⌝ }
 {
     if key.len() != 32 {

@@ -1,7 +1,6 @@
 // Aborted: the sender has given up.
 
 use records::find;
-use rows::answer;
 ghost use mathlib.Core.Path.{_≡_};
 ghost use Rattle.machine.specs.Layout.{decode};
 ghost use Rattle.machine.specs.Receive.{found, dropStep};

@@ -2,7 +2,6 @@
 
 use records::field;
 use records::find;
-use rows::answer;
 ghost use mathlib.Core.Path.{_≡_};
 ghost use Prim.Native.Nat.{_≤_};
 ghost use Rattle.octets.specs.Octets.{same};

@@ -2,7 +2,6 @@
 
 use packet::label::Label;
 use records::find;
-use rows::answer;
 use topic::Admission;
 ghost use mathlib.Core.Path.{_≡_};
 ghost use mathlib.Core.List.{_++_};

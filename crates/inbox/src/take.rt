@@ -1,10 +1,9 @@
 // Take: the oldest whole message leaves the store.
 
+use answer::Answer;
 use packet::header;
 use packet::run;
 use records::field;
-use rows::answer;
-use rows::answer::Answer;
 use rows::head::Head;
 use rows::record;
 ghost use mathlib.Core.Path.{_≡_};
@@ -68,9 +67,7 @@ pub fn take(recv: &mut [u8], taken: &mut [u8], run: &mut [u8]) -> Answer
         let o = now (run .entry) in
         let l = decode b .whole in
         ⌜ record {
-          number = r .number;
-          run = r .run;
-          wake = r .wake;
+          answer = r;
           recv = now (recv .exit);
           taken = now (taken .exit);
           out = now (run .exit);

@@ -29,7 +29,7 @@ module _ (p : Packet) (recv send out : List ℕ) where
   unfolding packetRow
   packet-clear e = refusal-front (packetFront p recv send out) behind refl e
 
-  pub packet-answer : Clear (packetFront p recv send out) → packetAnswer p recv send out .number ≡ refusal behind
+  pub packet-answer : Clear (packetFront p recv send out) → packetAnswer p recv send out .answer .number ≡ refusal behind
   unfolding packetRow
   packet-answer c = packet-number p recv send out ∙ front-refusal (packetFront p recv send out) behind c
 
@@ -52,6 +52,6 @@ module _ (recv taken out : List ℕ) where
   unfolding takeRow
   take-clear e = let f = refusal-front ((sound roleReceive recv, 25) ∷ []) oldest refl e in (f .0 .0, f .1)
 
-  pub take-answer : sound roleReceive recv ≡ true → takeOf recv taken out .number ≡ refusal oldest
+  pub take-answer : sound roleReceive recv ≡ true → takeOf recv taken out .answer .number ≡ refusal oldest
   unfolding takeRow
   take-answer t = take-number recv taken out ∙ front-refusal ((sound roleReceive recv, 25) ∷ []) oldest (t, tt)

@@ -73,7 +73,7 @@ fresh-holds c d a b e f =
 -- ---- calls that are done
 
 -- setup leaves a fresh store
-setup-done : (store : List ℕ) (role : ℕ) → setupOf store role .number ≡ 0
+setup-done : (store : List ℕ) (role : ℕ) → setupOf store role .answer .number ≡ 0
     → Valid role (fresh role (setupCells (length store))) × (setupOf store role .store ≡ encode (fresh role (setupCells (length store))))
 unfolding setupOf
 setup-done store role e =

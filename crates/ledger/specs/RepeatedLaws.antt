@@ -15,6 +15,7 @@ use Rattle.topic.specs.Book.{wellFormed, admits}
 use Rattle.packet.specs.declared.header.Kind.the-variants.{Init}
 use Rattle.packet.specs.Frame.{initLength, initTopic}
 use Rattle.packet.specs.Outgoing.{initReply}
+use Rattle.answer.specs.Answers.{accepted}
 use Rattle.machine.specs.Limits.{longest}
 use Rattle.machine.specs.Codes.{roleReceive, roleSend}
 use Rattle.machine.specs.Values.{Label, Rec, Store, sameKey, equalInFive, repeats}
@@ -47,9 +48,7 @@ equal-init-row p s r v e q =
 pub equal-init : (p : Packet) (recv send out : List ℕ) → Bytes recv → Bytes send → kind p ≡ Init → refusal (packetRow p recv send out) ≡ 0
     → repeats recLabel (found (asked p) (decode recv .held)) (initLabel p) ≡ true
     → packetAnswer p recv send out ≡ record {
-      number = 0;
-      run = length (replied initReply p);
-      wake = 0;
+      answer = accepted (length (replied initReply p)) 0;
       recv = recv;
       send = send;
       out = put out 0 (replied initReply p);

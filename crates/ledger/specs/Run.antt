@@ -34,17 +34,17 @@ pub data Call : Type 0 where
 
 -- the number that a call answers
 unfoldable pub answer : Call → Stores → ℕ
-answer (setup which store role) s = setupOf store role .number
-answer (packet p out) s = packetAnswer p (s .recv) (s .send) out .number
-answer (push p out) s = pushAnswer p (s .send) out .number
-answer (wake w out) s = wakeAnswer w (s .send) out .number
-answer (report id out) s = reportOf (s .send) id out .number
-answer (takeWhole taken out) s = takeOf (s .recv) taken out .number
+answer (setup which store role) s = setupOf store role .answer .number
+answer (packet p out) s = packetAnswer p (s .recv) (s .send) out .answer .number
+answer (push p out) s = pushAnswer p (s .send) out .answer .number
+answer (wake w out) s = wakeAnswer w (s .send) out .answer .number
+answer (report id out) s = reportOf (s .send) id out .answer .number
+answer (takeWhole taken out) s = takeOf (s .recv) taken out .answer .number
 
 -- the stores that it leaves; a buffer that setup refuses takes no store's place
 unfoldable pub after : Call → Stores → Stores
-after (setup receive store role) s = record { recv = cond (eqb (setupOf store role .number) 0) (setupOf store role .store) (s .recv); send = s .send }
-after (setup send store role) s = record { recv = s .recv; send = cond (eqb (setupOf store role .number) 0) (setupOf store role .store) (s .send) }
+after (setup receive store role) s = record { recv = cond (eqb (setupOf store role .answer .number) 0) (setupOf store role .store) (s .recv); send = s .send }
+after (setup send store role) s = record { recv = s .recv; send = cond (eqb (setupOf store role .answer .number) 0) (setupOf store role .store) (s .send) }
 after (packet p out) s = record { recv = packetAnswer p (s .recv) (s .send) out .recv; send = packetAnswer p (s .recv) (s .send) out .send }
 after (push p out) s = record { recv = s .recv; send = pushAnswer p (s .send) out .send }
 after (wake w out) s = record { recv = s .recv; send = wakeAnswer w (s .send) out .send }

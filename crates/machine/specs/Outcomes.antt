@@ -1,35 +1,31 @@
--- What a call leaves: its answer (number, 0: done; run length; wake mark), the stores it takes and every output buffer.
--- "Refusals change nothing" and carry run length and wake mark 0; "bytes past what is written stay".
+-- What a call leaves: its answer, the stores it takes and every output buffer. "Refusals change nothing" and carry a number alone; "bytes past what is
+-- written stay".
 use Prim.Native.Nat.{ℕ}
 use mathlib.Core.Bool.{cond}
 use mathlib.Core.List.{List}
 use lib.ListN.{length}
 use lib.Dec.{eqb}
 use Rattle.octets.specs.Octets.{put}
+use Rattle.answer.specs.declared.Answer.{Answer}
+use Rattle.answer.specs.Answers.{bare, sent}
 use Rattle.machine.specs.Values.{Store}
 use Rattle.machine.specs.Layout.{encode}
 
 -- of setup
 pub record SetupOutcome : Type 0 where
-  pub number : ℕ
-  pub run : ℕ
-  pub wake : ℕ
+  pub answer : Answer
   pub store : List ℕ
 
 -- of packet
 pub record PacketOutcome : Type 0 where
-  pub number : ℕ
-  pub run : ℕ
-  pub wake : ℕ
+  pub answer : Answer
   pub recv : List ℕ
   pub send : List ℕ
   pub out : List ℕ
 
 -- of push and of both wakes
 pub record SendOutcome : Type 0 where
-  pub number : ℕ
-  pub run : ℕ
-  pub wake : ℕ
+  pub answer : Answer
   pub send : List ℕ
   pub out : List ℕ
 
@@ -37,21 +33,17 @@ pub record SendOutcome : Type 0 where
 abbrev pub sendAt : ℕ → Store → List ℕ → List ℕ → List ℕ → SendOutcome
 sendAt n s run send out =
     cond (eqb n 0)
-    (record { number = 0; run = length run; wake = 0; send = encode s; out = put out 0 run })
-    (record { number = n; run = 0; wake = 0; send = send; out = out })
+    (record { answer = sent (length run); send = encode s; out = put out 0 run })
+    (record { answer = bare n; send = send; out = out })
 
 -- of report
 pub record ReportOutcome : Type 0 where
-  pub number : ℕ
-  pub run : ℕ
-  pub wake : ℕ
+  pub answer : Answer
   pub out : List ℕ
 
 -- `taken` is the data buffer
 pub record TakeOutcome : Type 0 where
-  pub number : ℕ
-  pub run : ℕ
-  pub wake : ℕ
+  pub answer : Answer
   pub recv : List ℕ
   pub taken : List ℕ
   pub out : List ℕ

@@ -8,6 +8,7 @@ use lib.ListN.{length}
 use lib.Dec.{eqb, leb, ltb}
 use Rattle.octets.specs.Octets.{put, same}
 use Rattle.octets.specs.Bools.{one}
+use Rattle.answer.specs.Answers.{bare, accepted}
 use Rattle.blake3.specs.Tree.{blake3}
 use Rattle.topic.specs.Book.{wellFormed, admits}
 use Rattle.packet.specs.declared.header.Kind.{Kind}
@@ -227,14 +228,12 @@ abbrev pub packetAt : ℕ → Packet → List ℕ → List ℕ → List ℕ → 
 packetAt n p recv send out =
     cond (eqb n 0)
     (record {
-      number = 0;
-      run = length (kindOut (kind p) p);
-      wake = kindWake (kind p);
+      answer = accepted (length (kindOut (kind p) p)) (kindWake (kind p));
       recv = encode (recvStep (kind p) p (decode recv));
       send = encode (sendStep (kind p) p (decode send));
       out = put out 0 (kindOut (kind p) p);
     })
-    (record { number = n; run = 0; wake = 0; recv = recv; send = send; out = out })
+    (record { answer = bare n; recv = recv; send = send; out = out })
 
 -- the packet call, with its packet as one value
 abbrev pub packetAnswer : Packet → List ℕ → List ℕ → List ℕ → PacketOutcome

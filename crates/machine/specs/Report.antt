@@ -6,6 +6,7 @@ use mathlib.Core.Option.{Option, none, some}
 use lib.ListN.{length}
 use lib.Dec.{eqb, leb}
 use Rattle.octets.specs.Octets.{put, be}
+use Rattle.answer.specs.Answers.{bare}
 use Rattle.machine.specs.Limits.{second}
 use Rattle.machine.specs.Codes.{roleSend, stateInProgress, pieceStarted, pieceSent, pieceAcked, shortOutput, unsoundStore}
 use Rattle.machine.specs.Values.{Cell, Rec}
@@ -40,7 +41,7 @@ reported (some r) =
 
 -- with the number that its row gives: the report at the start of the buffer
 abbrev pub reportAt : ℕ → Option Rec → List ℕ → ReportOutcome
-reportAt n r out = record { number = n; run = 0; wake = 0; out = cond (eqb n 0) (put out 0 (reported r)) out }
+reportAt n r out = record { answer = bare n; out = cond (eqb n 0) (put out 0 (reported r)) out }
 
 -- report, as the code has its parameters
 unfoldable pub reportOf : List ℕ → List ℕ → List ℕ → ReportOutcome

@@ -3,6 +3,7 @@ use Prim.Native.Nat.{ℕ}
 use mathlib.Core.Bool.{cond}
 use mathlib.Core.List.{List}
 use lib.ListN.{length}
+use Rattle.answer.specs.Answers.{bare}
 use Rattle.machine.specs.Codes.{unsoundStore}
 use Rattle.machine.specs.Layout.{encode}
 use Rattle.machine.specs.Sound.{fresh, setupCells, allowed}
@@ -12,5 +13,5 @@ use Rattle.machine.specs.Outcomes.{SetupOutcome}
 unfoldable pub setupOf : List ℕ → ℕ → SetupOutcome
 setupOf store role =
     cond (allowed (length store) role)
-    (record { number = 0; run = 0; wake = 0; store = encode (fresh role (setupCells (length store))) })
-    (record { number = unsoundStore; run = 0; wake = 0; store = store })
+    (record { answer = bare 0; store = encode (fresh role (setupCells (length store))) })
+    (record { answer = bare unsoundStore; store = store })

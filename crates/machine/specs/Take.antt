@@ -5,6 +5,7 @@ use mathlib.Core.List.{List, [], _∷_, _++_}
 use lib.ListN.{length}
 use lib.Dec.{eqb, leb}
 use Rattle.octets.specs.Octets.{put}
+use Rattle.answer.specs.Answers.{bare, sent}
 use Rattle.packet.specs.Outgoing.{entry, readPacket}
 use Rattle.machine.specs.Limits.{recBytes}
 use Rattle.machine.specs.Codes.{roleReceive, shortOutput, noneWhole, unsoundStore}
@@ -47,14 +48,12 @@ abbrev pub takeAt : ℕ → List Rec → List ℕ → List ℕ → List ℕ → 
 takeAt n whole recv taken out =
     cond (eqb n 0)
     (record {
-      number = 0;
-      run = length (takeOut whole);
-      wake = 0;
+      answer = sent (length (takeOut whole));
       recv = encode (takeStep (decode recv));
       taken = put taken 0 (takenBytes recv whole);
       out = put out 0 (takeOut whole);
     })
-    (record { number = n; run = 0; wake = 0; recv = recv; taken = taken; out = out })
+    (record { answer = bare n; recv = recv; taken = taken; out = out })
 
 -- take, as the code has its parameters
 unfoldable pub takeOf : List ℕ → List ℕ → List ℕ → TakeOutcome

@@ -12,6 +12,7 @@ use Rattle.octets.specs.Octets.{Bytes}
 use Rattle.octets.specs.BoolsLaws.{cases}
 use Rattle.octets.specs.PartsLaws.{put-nil}
 use Rattle.calendar.specs.Calendar.{wellFormed}
+use Rattle.answer.specs.Answers.{bare}
 use Rattle.machine.specs.Codes.{roleSend, shortOutput, noWork, unsoundStore}
 use Rattle.machine.specs.Values.{Rec, Store}
 use Rattle.machine.specs.Layout.{decode}
@@ -38,7 +39,7 @@ module _ (w : Wake) (s : sends w ≡ true) (h : inHours w ≡ false) where
 
   -- whether or not it is refused
   pub outside-hours : (send out : List ℕ) → Bytes send
-      → wakeAnswer w send out ≡ record { number = refusal (wakeRow w send out); run = 0; wake = 0; send = send; out = out }
+      → wakeAnswer w send out ≡ record { answer = bare (refusal (wakeRow w send out)); send = send; out = out }
   unfolding wakeRow
   outside-hours send out b =
       cases (eqb (refusal (wakeRow w send out)) 0)

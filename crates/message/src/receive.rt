@@ -2,11 +2,10 @@
 
 use crate::step;
 use crate::step::Route;
+use answer::Answer;
 use packet::header;
 use packet::reader;
 use packet::run;
-use rows::answer;
-use rows::answer::Answer;
 use rows::head;
 ghost use mathlib.Core.Path.{_≡_};
 ghost use Rattle.machine.specs.Packet.{packetOf};
@@ -32,9 +31,7 @@ pub fn packet(
 ) -> Answer
     ensures { λ r.
         ⌜ record {
-          number = r .number;
-          run = r .run;
-          wake = r .wake;
+          answer = r;
           recv = now (recv .exit);
           send = now (send .exit);
           out = now (run .exit);
@@ -68,11 +65,7 @@ pub fn packet(
         return answer::refuse(number);
     }
     let length = step::reply(effect.keeps, frame, from, to, run);
-    Answer {
-        number: answer::DONE,
-        run: length as u64,
-        wake: effect.wake,
-    }
+    answer::accept(length as u64, effect.wake)
 }
 
 // The oldest whole message: its record and its data go into `taken`, its read packet into `run`, and its
@@ -80,9 +73,7 @@ pub fn packet(
 pub fn take(recv: &mut [u8], taken: &mut [u8], run: &mut [u8]) -> Answer
     ensures { λ r.
         ⌜ record {
-          number = r .number;
-          run = r .run;
-          wake = r .wake;
+          answer = r;
           recv = now (recv .exit);
           taken = now (taken .exit);
           out = now (run .exit);

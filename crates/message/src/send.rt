@@ -1,8 +1,7 @@
 // What leaves: messages that are pushed, woken and reported on.
 
+use answer::Answer;
 use packet::label::labelled;
-use rows::answer;
-use rows::answer::Answer;
 use rows::head;
 ghost use mathlib.Core.Path.{_≡_};
 ghost use Rattle.machine.specs.Push.{pushOf};
@@ -24,9 +23,7 @@ pub fn push(
 ) -> Answer
     ensures { λ r.
         ⌜ record {
-          number = r .number;
-          run = r .run;
-          wake = r .wake;
+          answer = r;
           send = now (send .exit);
           out = now (run .exit);
         }
@@ -53,9 +50,7 @@ pub fn wake(
 ) -> Answer
     ensures { λ r.
         ⌜ record {
-          number = r .number;
-          run = r .run;
-          wake = r .wake;
+          answer = r;
           send = now (send .exit);
           out = now (run .exit);
         }
@@ -70,7 +65,7 @@ pub fn wake(
 // The report on the message with that id, into `out`.
 pub fn report(send: &[u8], id: &[u8; 8], out: &mut [u8]) -> Answer
     ensures { λ r.
-        ⌜ record { number = r .number; run = r .run; wake = r .wake; out = now (out .exit) }
+        ⌜ record { answer = r; out = now (out .exit) }
         ≡ reportOf (now (send .entry)) (now (id .entry)) (now (out .entry)) ⌝ }
 {
     if !soundness::store::sound(send, head::SEND) {

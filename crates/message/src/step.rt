@@ -8,7 +8,6 @@ use packet::init::MessageInit;
 use packet::label::labelled;
 use packet::reader;
 use packet::run;
-use rows::answer;
 use rows::record;
 ghost use mathlib.Core.Path.{_≡_};
 ghost use mathlib.Core.Bool.{true};

@@ -1,8 +1,8 @@
 // The calls, each with a line for what came of it. Stores have 25 cells.
 
 use crate::show;
+use answer::Answer;
 use calendar::ALWAYS;
-use rows::answer::Answer;
 
 // The packet call, from 0x11.. to 0x22..
 pub(crate) fn packet(

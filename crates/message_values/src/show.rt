@@ -1,7 +1,7 @@
 // The lines that the program writes, and what they say of buffers: whether a call left them as they were.
 
+use answer::Answer;
 use libc::STDOUT_FILENO;
-use rows::answer::Answer;
 
 // Text.
 pub(crate) fn say(text: &[u8]) {

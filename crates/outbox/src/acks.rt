@@ -2,7 +2,6 @@
 // 2, read 2 to 3; ack chunk needs 1 and marks its piece Acked. Any other state is 18."
 use records::field;
 use records::find;
-use rows::answer;
 use rows::record::IN_PROGRESS;
 ghost use mathlib.Core.Path.{_≡_};
 ghost use Prim.Native.Nat.{_≤_};

@@ -1,11 +1,10 @@
 // Push: a message starts to leave. Its data is cut by 1,300 into free cells, its record is opened, and its init is sent.
+use answer::Answer;
 use packet::init::MessageInit;
 use packet::label::Label;
 use packet::run;
 use records::find;
 use records::open::Times;
-use rows::answer;
-use rows::answer::Answer;
 use rows::head::Head;
 use rows::message;
 ghost use mathlib.Core.Path.{_≡_};
@@ -120,7 +119,7 @@ pub fn push(
         let b = now (send .entry) in
         let o = now (run .entry) in
         let p = pushes label (now (topic .entry)) (now (bytes .entry)) created «try_ms» in
-        ⌜ record { number = r .number; run = r .run; wake = r .wake; send = now (send .exit); out = now (run .exit) }
+        ⌜ record { answer = r; send = now (send .exit); out = now (run .exit) }
         ≡ sendAt (refusal (pushTests p (decode b) (length o))) (pushedInto p (decode b)) (initOut (pushLabel p)) b o ⌝ }
 {
     let id = label.id;

@@ -1,10 +1,9 @@
 // The report on a message that leaves. Document 01, "Report, into its buffer": destination (16), state (1),
 // counts of Started, Sent and Acked (1 each), created and end in whole seconds (8 each), length (8).
+use answer::Answer;
 use octets::copy_in;
 use octets::put64;
 use records::field;
-use rows::answer;
-use rows::answer::Answer;
 use rows::cell::ACKED;
 use rows::cell::SENT;
 use rows::cell::STARTED;
@@ -74,7 +73,7 @@ pub fn report(send: &[u8], id: &[u8], out: &mut [u8]) -> Answer
     ensures { λ r.
         let o = found (now (id .entry)) (decode (now (send .entry)) .held) in
         let buffer = now (out .entry) in
-        ⌜ record { number = r .number; run = r .run; wake = r .wake; out = now (out .exit) }
+        ⌜ record { answer = r; out = now (out .exit) }
         ≡ reportAt (refusal (reportTests buffer o)) o buffer ⌝ }
 {
     if out.len() < ROOM {

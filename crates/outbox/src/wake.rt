@@ -5,13 +5,12 @@ use crate::done::put_done;
 use crate::due::send_due;
 use crate::init::put_init;
 use crate::record::names_at;
+use answer::Answer;
 use calendar::is_open;
 use calendar::well_formed;
 use packet::header;
 use packet::run;
 use records::field;
-use rows::answer;
-use rows::answer::Answer;
 use rows::record::IN_PROGRESS;
 use rows::record::INIT;
 ghost use mathlib.Core.Path.{_≡_};
@@ -153,9 +152,7 @@ pub fn wake(
         let out = now (run .entry) in
         let w = waking kind (now (id .entry)) clock (now (calendar .entry)) «unix_ms» in
         ⌜ record {
-          number = r .number;
-          run = r .run;
-          wake = r .wake;
+          answer = r;
           send = now (send .exit);
           out = now (run .exit);
         }

@@ -9,7 +9,6 @@ use crate::told;
 use crate::told::Call;
 use crate::told::Told;
 use crate::told::Why;
-use rows::answer;
 ghost use Prim.Native.Nat.{_≤_};
 ghost use lib.ListN.{length};
 

@@ -6,9 +6,8 @@ use crate::room;
 use crate::text;
 use crate::value;
 use crate::value::Value;
+use answer::Answer;
 use calendar::ALWAYS;
-use rows::answer;
-use rows::answer::Answer;
 
 // What a line makes: the library's answer, or nothing where it is not of the form.
 pub(crate) enum Made {

@@ -5,8 +5,8 @@ use crate::shown;
 use crate::text;
 use crate::value;
 use crate::value::Value;
+use answer::Answer;
 use packet::run;
-use rows::answer::Answer;
 
 // A call: its line's place in the text and its kind, the library's answer, and what the lines have told of it so far.
 pub(crate) struct Call {

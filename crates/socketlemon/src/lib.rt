@@ -1,8 +1,7 @@
 // The calls by the C convention, for a host in any language; include/socketlemon.h declares them. A slice is
 // a pointer and a length. Each export is one call and carries its whole contract.
 
-use rows::answer;
-use rows::answer::Answer;
+use answer::Answer;
 ghost use mathlib.Core.Path.{_≡_};
 ghost use Rattle.address.specs.Address.{addressOf};
 ghost use Rattle.machine.specs.Setup.{setupOf};
@@ -16,7 +15,7 @@ ghost use Rattle.machine.specs.Take.{takeOf};
 #[no_mangle]
 pub extern "C" fn socketlemon_setup(store: &mut [u8], role: u64) -> Answer
     ensures { λ r.
-        ⌜ record { number = r .number; run = r .run; wake = r .wake; store = now (store .exit) }
+        ⌜ record { answer = r; store = now (store .exit) }
         ≡ setupOf (now (store .entry)) role ⌝ }
 {
     message::setup(store, role)
@@ -36,9 +35,7 @@ pub extern "C" fn socketlemon_packet(
 ) -> Answer
     ensures { λ r.
         ⌜ record {
-          number = r .number;
-          run = r .run;
-          wake = r .wake;
+          answer = r;
           recv = now (recv .exit);
           send = now (send .exit);
           out = now (run .exit);
@@ -65,9 +62,7 @@ pub extern "C" fn socketlemon_push(
 ) -> Answer
     ensures { λ r.
         ⌜ record {
-          number = r .number;
-          run = r .run;
-          wake = r .wake;
+          answer = r;
           send = now (send .exit);
           out = now (run .exit);
         }
@@ -101,9 +96,7 @@ pub extern "C" fn socketlemon_wake(
 ) -> Answer
     ensures { λ r.
         ⌜ record {
-          number = r .number;
-          run = r .run;
-          wake = r .wake;
+          answer = r;
           send = now (send .exit);
           out = now (run .exit);
         }
@@ -116,7 +109,7 @@ pub extern "C" fn socketlemon_wake(
 #[no_mangle]
 pub extern "C" fn socketlemon_report(send: &[u8], id: &[u8; 8], out: &mut [u8]) -> Answer
     ensures { λ r.
-        ⌜ record { number = r .number; run = r .run; wake = r .wake; out = now (out .exit) }
+        ⌜ record { answer = r; out = now (out .exit) }
         ≡ reportOf (now (send .entry)) (now (id .entry)) (now (out .entry)) ⌝ }
 {
     message::report(send, id, out)
@@ -127,9 +120,7 @@ pub extern "C" fn socketlemon_report(send: &[u8], id: &[u8; 8], out: &mut [u8]) 
 pub extern "C" fn socketlemon_take(recv: &mut [u8], taken: &mut [u8], run: &mut [u8]) -> Answer
     ensures { λ r.
         ⌜ record {
-          number = r .number;
-          run = r .run;
-          wake = r .wake;
+          answer = r;
           recv = now (recv .exit);
           taken = now (taken .exit);
           out = now (run .exit);
@@ -143,8 +134,7 @@ pub extern "C" fn socketlemon_take(recv: &mut [u8], taken: &mut [u8], run: &mut 
 #[no_mangle]
 pub extern "C" fn socketlemon_address(key: &[u8], out: &mut [u8]) -> Answer
     ensures { λ r.
-        ⌜ (record { number = r .number; out = now (out .exit) } ≡ addressOf (now (key .entry)) (now (out .entry)))
-        × (r .run ≡ 0) × (r .wake ≡ 0) ⌝ }
+        ⌜ record { answer = r; out = now (out .exit) } ≡ addressOf (now (key .entry)) (now (out .entry)) ⌝ }
 {
     let number = address::address(key, out);
     answer::refuse(number)

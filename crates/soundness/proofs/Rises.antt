@@ -14,6 +14,7 @@ use Rattle.octets.specs.Octets.{put}
 use Rattle.octets.specs.BoolsLaws.{cases, split}
 use Rattle.octets.specs.PartsLaws.{more, put-nil, put-whole}
 use Rattle.octets.specs.WrittenLaws.{wrote, then}
+use Rattle.answer.specs.Answers.{bare}
 use Rattle.machine.specs.Limits.{headBytes, recCount, recBytes, cellBytes, mostCells, storeBytes}
 use Rattle.machine.specs.Codes.{roleReceive, roleSend, isRole}
 use Rattle.machine.specs.Rows.{rowAt, table}
@@ -156,16 +157,16 @@ role-small role h =
 
 module _ (b : List ℕ) (role c : ℕ) (e : c ≡ setupCells (length b)) where
   -- a length or a role that is not allowed
-  pub setup-short : c ≡ 0 → record { number = 25; run = 0; wake = 0; store = b } ≡ setupOf b role
+  pub setup-short : c ≡ 0 → record { answer = bare 25; store = b } ≡ setupOf b role
   unfolding setupOf
   setup-short z = rw (← e, z)
 
-  pub setup-other : isRole role ≡ false → record { number = 25; run = 0; wake = 0; store = b } ≡ setupOf b role
+  pub setup-other : isRole role ≡ false → record { answer = bare 25; store = b } ≡ setupOf b role
   unfolding setupOf
   setup-other z = rw (z, and-false (ltb 0 (setupCells (length b))))
 
   pub setup-done : (l : List ℕ) → (c ≡ 0 → ⊥) → isRole role ≡ true → l ≡ encode (fresh role c)
-      → record { number = 0; run = 0; wake = 0; store = l } ≡ setupOf b role
+      → record { answer = bare 0; store = l } ≡ setupOf b role
   unfolding setupOf
   setup-done l n z q = rw (← e, lt-ltb 0 c (omega (arith, n)), z, q)
 

@@ -1,11 +1,11 @@
 // Setup: a store becomes fresh.
 
-use rows::answer;
 ghost use mathlib.Core.Path.{_≡_};
 ghost use mathlib.Core.Bool.{true};
 ghost use Prim.Native.Nat.{_+_, _*_, _≤_, _<_};
 ghost use lib.ListN.{length};
 ghost use Rattle.octets.specs.Octets.{put};
+ghost use Rattle.answer.specs.Answers.{bare};
 ghost use Rattle.machine.specs.Limits.{mostCells, storeBytes};
 ghost use Rattle.machine.specs.Codes.{isRole};
 ghost use Rattle.machine.specs.Layout.{freeRow, encode};
@@ -102,7 +102,7 @@ fn put_fresh(store: &mut [u8], role: u64, cells: usize)
 // Makes a store fresh; refuses a length that is no store's, and a role that is none.
 pub fn setup(store: &mut [u8], role: u64) -> u64
     ensures { λ r.
-        ⌜ record { number = r; run = 0; wake = 0; store = now (store .exit) }
+        ⌜ record { answer = bare r; store = now (store .exit) }
         ≡ setupOf (now (store .entry)) role ⌝ }
 {
     let cells = cells_of(store.len());

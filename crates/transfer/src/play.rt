@@ -2,8 +2,8 @@
 
 use crate::read;
 use crate::show;
+use answer::Answer;
 use calendar::ALWAYS;
-use rows::answer::Answer;
 
 // The most packets that a run has.
 const PACKETS: usize = 25;

@@ -1,8 +1,8 @@
 // The lines of the trace.
 
 use crate::read;
+use answer::Answer;
 use libc::STDOUT_FILENO;
-use rows::answer::Answer;
 
 // The flags that decide which fields a packet has.
 const INIT: u64 = 0x80;

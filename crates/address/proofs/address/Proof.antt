@@ -4,6 +4,7 @@ use mathlib.Core.Path.{ap}
 use mathlib.Core.List.{List}
 use borrow.Author.Tests.{eq-eqb, ne-eqb, lt-leb, le-leb}
 use Rattle.octets.specs.Octets.{part}
+use Rattle.answer.specs.Answers.{bare}
 use Rattle.address.specs.Address.{addressOf}
 use Rattle.address.proofs.Writes.{address-is}
 use borrow.Author.Needs.{needs}
@@ -27,7 +28,7 @@ returns-3 c =
     let c13 = c12 .before in
     let c14 = c13 .before in
     simp (eq-eqb _ _ (c14 .if1 .left), le-leb _ _ (c13 .if2 .left))
-    (ap (λ (l : List ℕ). record { number = 0; out = l })
+    (ap (λ (l : List ℕ). record { answer = bare 0; out = l })
     (address-is _ _ _ _ _ _ (c12 .hash .ensures) (c11 .first-byte .ensures) (c8 .copy-in .ensures) (c .before .before .copy-in2 .ensures) (c13 .if2 .left)))
 
 pub address-spec : {M : Type 1} → statement M

@@ -65,16 +65,14 @@ slice-read-if1 c =
 returns : tie.Need-returns
 returns c =
     let e : row (c .before .before .before .before .before .before) ≡ 23 = rw (none-whole _ (c .before .if1 .taken)) (stop _ _ _ refl) in
-    let r = c .refuse .ensures in
-    rw (e, r .0, r .1, r .2)
+    rw (e, c .refuse .ensures)
 
 returns-2 : tie.Need-returns-2
 returns-2 c =
     let whole = c .before .before in
     let short = lt-leb takeRoom (length (start whole .args .run .now)) (c .before .if2 .taken) in
     let e : row (start whole) ≡ 2 = rw (some-whole _ (oldest whole .some)) (stop _ _ _ (rw short)) in
-    let r = c .refuse2 .ensures in
-    rw (e, r .0, r .1, r .2)
+    rw (e, c .refuse2 .ensures)
 
 add-if3 : tie.Need-add-if3
 add-if3 c = let whole = whole-at c in omega (arith, oldest-fine _ (bytes whole) (oldest whole) .total, length-is c)
@@ -87,8 +85,7 @@ returns-3 c =
     let need = takenRoom (message whole .label .total) in
     let short = lt-leb need (length (start whole .args .taken .now)) (omega (arith, c .before .if3 .taken, length-is total)) in
     let e : row (start whole) ≡ 2 = rw (some-whole _ (oldest whole .some)) (stop _ _ _ (rw (le-leb _ _ (fits .if2 .left), short))) in
-    let r = c .refuse3 .ensures in
-    rw (e, r .0, r .1, r .2)
+    rw (e, c .refuse3 .ensures)
 
 put-read-requires : tie.Need-put-read-requires
 put-read-requires c κs = let total = c .before .before .before in (oldest (whole-at total), total .before .before .if2 .left)
@@ -117,8 +114,7 @@ returns-4 c =
     let whole = fits .before in
     let passed = both _ _ (le-leb _ _ (fits .if2 .left)) (le-leb _ _ (room holds)) in
     let e : row (start whole) ≡ 0 = rw (some-whole _ (oldest whole .some)) (next _ _ _ passed ∙ clear) in
-    let r = c .sent .ensures in
-    rw (e, r .0, r .1, r .2, first .take-first .ensures, message .put-message .ensures, read .put-read .ensures, some-whole _ (oldest whole .some), long whole)
+    rw (e, c .sent .ensures, first .take-first .ensures, message .put-message .ensures, read .put-read .ensures, some-whole _ (oldest whole .some), long whole)
 
 pub take-spec : {M : Type 1} → statement M
 take-spec =

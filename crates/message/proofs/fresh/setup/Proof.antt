@@ -4,7 +4,7 @@ use Rattle.message.proofs.fresh.setup.Statement.{statement}
 use Rattle.message.proofs.fresh.setup.Tie as tie
 
 returns : tie.Need-returns
-returns c = let r = c .refuse .ensures in rw (r .0, r .1, r .2) (c .before .before .before .setup .ensures)
+returns c = rw (c .refuse .ensures) (c .before .before .before .setup .ensures)
 
 pub setup-spec : {M : Type 1} → statement M
 setup-spec =

@@ -69,19 +69,17 @@ from5 c = from4 (c .before) ∙ next _ _ _ (le-leb _ _ (c .if5 .left))
 returns : tie.Need-returns
 unfolding packetOf packetRow refusal
 returns c =
-    let r = c .refuse .ensures in
-    rw (sym (c .before .before .sound .ensures) ∙ not-true _ (c .before .if1 .taken), r .0, r .1, r .2) refl
+    rw (sym (c .before .before .sound .ensures) ∙ not-true _ (c .before .if1 .taken), c .refuse .ensures) refl
 
 returns-2 : tie.Need-returns-2
 unfolding packetOf packetRow refusal
 returns-2 c =
     let sends = c .before .before in
-    let r = c .refuse2 .ensures in
-    rw (from1 (sends .before .before), sym (sends .sound2 .ensures) ∙ not-true _ (c .before .if2 .taken), r .0, r .1, r .2) refl
+    rw (from1 (sends .before .before), sym (sends .sound2 .ensures) ∙ not-true _ (c .before .if2 .taken), c .refuse2 .ensures) refl
 
 returns-3 : tie.Need-returns-3
 unfolding packetOf packetRow refusal
-returns-3 c = let r = c .refuse3 .ensures in rw (from2 (c .before .before), ne-eqb _ _ (c .before .if3 .taken), r .0, r .1, r .2) refl
+returns-3 c = rw (from2 (c .before .before), ne-eqb _ _ (c .before .if3 .taken), c .refuse3 .ensures) refl
 
 returns-4 : tie.Need-returns-4
 unfolding packetOf packetRow refusal
@@ -89,12 +87,11 @@ returns-4 c =
     let effect = c .before .before .before in
     let kind = effect .before in
     let none = sym (effect .effect-of .ensures .0 ∙ ap isKind (kind-is kind)) ∙ not-true _ (c .before .if4 .taken) in
-    let r = c .refuse4 .ensures in
-    rw (from3 (kind .before .before), none, r .0, r .1, r .2) refl
+    rw (from3 (kind .before .before), none, c .refuse4 .ensures) refl
 
 returns-5 : tie.Need-returns-5
 unfolding packetOf packetRow refusal
-returns-5 c = let r = c .refuse5 .ensures in rw (from4 (c .before .before), lt-leb _ _ (c .before .if5 .taken), r .0, r .1, r .2) refl
+returns-5 c = rw (from4 (c .before .before), lt-leb _ _ (c .before .if5 .taken), c .refuse5 .ensures) refl
 
 -- what the step left
 abbrev accepted : tie.After-step → tie.Else4
@@ -125,8 +122,7 @@ unfolding packetOf packetRow refusal
 returns-6 c =
     let step = c .before .before .before .before .before .before in
     let room = step .before .before .before .before .before in
-    let r = c .refuse6 .ensures in
-    rw (from5 room, r .0, r .1, r .2) (step-out (P (s4 (room .before))) _ _ _ (step .step .ensures ∙ own step) (c .before .if6 .taken))
+    rw (from5 room, c .refuse6 .ensures) (step-out (P (s4 (room .before))) _ _ _ (step .step .ensures ∙ own step) (c .before .if6 .taken))
 
 reply-requires : tie.Need-reply-requires
 reply-requires c κs =
@@ -139,7 +135,7 @@ reply-requires c κs =
 returns-7 : tie.Need-returns-7
 unfolding packetOf packetRow refusal
 returns-7 c =
-    let reply = c .before .before in
+    let reply = c .before .before .before in
     let done = reply .before .before in
     let step = done .before .before .before .before .before in
     let room = step .before .before .before .before .before in
@@ -148,7 +144,7 @@ returns-7 c =
     let e = effect .effect-of .ensures in
     let k = kind-is (effect .before) in
     let o = ap (λ (n : ℕ). replyOut n (p .frame) (p .from) (p .to)) (e .1 ∙ ap replyBytes k) in
-    rw (from5 room)
+    rw (from5 room, c .accept .ensures)
     (done-out p _ _ _ (step .step .ensures ∙ own step) (done .if6 .left)
     (reply .reply .ensures .0 ∙ ap length o) (e .2 ∙ ap kindWake k) (reply .reply .ensures .1 ∙ ap (put _ 0) o))
 
@@ -162,4 +158,4 @@ packet-spec =
     (λ c κs. search needs) (λ c κs. search needs) (λ c κs. search needs) (λ c κs. search needs) (λ c. search needs) (λ c. search needs) returns-4
     (λ c κs. search needs) (λ c. search needs) (λ c. search needs) returns-5
     step-requires (λ c κs. search needs) (λ c. search needs) (λ c. search needs) returns-6
-    reply-requires (λ c. search needs) (λ c. search needs) (λ c. search needs) returns-7)
+    reply-requires (λ c. search needs) (λ c. search needs) (λ c. search needs) (λ c. search needs) returns-7)

@@ -13,8 +13,7 @@ use Rattle.message.proofs.receive.take.Tie as tie
 returns : tie.Need-returns
 unfolding takeOf takeRow refusal
 returns c =
-    let r = c .refuse .ensures in
-    rw (sym (c .before .before .sound .ensures) ∙ not-true _ (c .before .if1 .taken), r .0, r .1, r .2) refl
+    rw (sym (c .before .before .sound .ensures) ∙ not-true _ (c .before .if1 .taken), c .refuse .ensures) refl
 
 -- the store is sound
 sounds : (c : tie.Else1) → sound roleReceive (c .before .before .before .before .before .before .args .recv .now) ≡ true

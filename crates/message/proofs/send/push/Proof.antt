@@ -44,8 +44,7 @@ marked n = cases (yes n) (λ e. rw e refl) (λ e. rw e refl)
 returns : tie.Need-returns
 unfolding pushOf pushRow refusal
 returns c =
-    let r = c .refuse .ensures in
-    rw (sym (c .before .before .sound .ensures) ∙ not-true _ (c .before .if1 .taken), r .0, r .1, r .2) refl
+    rw (sym (c .before .before .sound .ensures) ∙ not-true _ (c .before .if1 .taken), c .refuse .ensures) refl
 
 push-requires : tie.Need-push-requires
 push-requires c κs =

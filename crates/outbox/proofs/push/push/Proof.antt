@@ -61,9 +61,8 @@ init-long s =
 
 returns : tie.Need-returns
 returns c =
-    let e = c .refuse .ensures in
     let asked = c .before .before in
-    rw (← asked .refusal .ensures, ne-eqb (asked .refusal .result) 0 (c .before .if1 .taken), e .0, e .1, e .2)
+    rw (← asked .refusal .ensures, ne-eqb (asked .refusal .result) 0 (c .before .if1 .taken), c .refuse .ensures)
 
 add-sent : tie.Need-add-sent
 unfolding capacity
@@ -114,8 +113,7 @@ returns-2 c =
     let free = held .before .before in
     let s = begun free in
     let flag = s .args .label .reply in
-    let e = c .sent .ensures in
-    rw (clear free, flag-label flag, e .0, e .1, e .2, ← init-long s, ← s .pre .2, held .hold .ensures, put .put-init .ensures, flag-packet flag)
+    rw (clear free, flag-label flag, c .sent .ensures, ← init-long s, ← s .pre .2, held .hold .ensures, put .put-init .ensures, flag-packet flag)
 
 pub push-spec : {M : Type 1} → statement M
 push-spec =

@@ -40,16 +40,14 @@ searched c =
 returns : tie.Need-returns
 returns c =
     let e : row (c .before .before .before .before .before) ≡ 2 = stop _ _ _ (lt-leb _ _ (c .before .if1 .taken)) in
-    let r = c .refuse .ensures in
-    rw (e, r .0, r .1, r .2)
+    rw (e, c .refuse .ensures)
 
 returns-2 : tie.Need-returns-2
 returns-2 c =
     let at = c .before .before .before in
     let h = searched at in
     let e : row (start (at .before)) ≡ 8 = from8 (at .before) ∙ sym (number-is h _ (none-met (ended h) _ (c .before .if2 .taken))) in
-    let r = c .refuse2 .ensures in
-    rw (e, r .0, r .1, r .2)
+    rw (e, c .refuse2 .ensures)
 
 put-report-requires : tie.Need-put-report-requires
 put-report-requires c κs =
@@ -65,8 +63,7 @@ returns-3 c =
     let at = there .before .before in
     let h = searched at in
     let e : row (start (at .before)) ≡ 0 = from8 (at .before) ∙ sym (number-is h _ (sym (asks-met (ended h) _ some ∙ clear))) in
-    let r = c .sent .ensures in
-    rw (e, found-some roleSend _ (h .bytes) (h .sound) _ _ (h .is) some, r .0, r .1, r .2, wrote .put-report .ensures)
+    rw (e, found-some roleSend _ (h .bytes) (h .sound) _ _ (h .is) some, c .sent .ensures, wrote .put-report .ensures)
 
 pub report-spec : {M : Type 1} → statement M
 report-spec =

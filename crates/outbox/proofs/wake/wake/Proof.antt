@@ -77,32 +77,28 @@ returns c =
     let kind = c .before .before in
     let e : row (kind .before .before .before .before .before) ≡ 20 =
     stop _ _ _ (sym (kind .is-kind .ensures) ∙ not-true _ (c .before .if1 .taken)) in
-    let r = c .refuse .ensures in
-    rw (e, r .0, r .1, r .2)
+    rw (e, c .refuse .ensures)
 
 returns-2 : tie.Need-returns-2
 returns-2 c =
     let asked = c .before .before in
     let e : row (start1 (asked .before)) ≡ 26 =
     from26 (asked .before) ∙ stop _ _ _ (sym (asked .is-dated .ensures) ∙ not-true _ (c .before .if2 .taken)) in
-    let r = c .refuse2 .ensures in
-    rw (e, r .0, r .1, r .2)
+    rw (e, c .refuse2 .ensures)
 
 returns-3 : tie.Need-returns-3
 returns-3 c =
     let asked = c .before .before in
     let short = rw (asked .room .ensures) at (c .before .if3 .taken) in
     let e : row (start1 (kind-at (asked .before))) ≡ 2 = from2 (asked .before) ∙ stop _ _ _ (lt-leb _ _ short) in
-    let r = c .refuse3 .ensures in
-    rw (e, r .0, r .1, r .2)
+    rw (e, c .refuse3 .ensures)
 
 returns-4 : tie.Need-returns-4
 returns-4 c =
     let at = c .before .before .before in
     let h = searched at in
     let e : row (start at) ≡ 8 = from8 (room-at at) ∙ sym (number-is h _ (none-met (ended h) _ (c .before .if4 .taken))) in
-    let r = c .refuse4 .ensures in
-    rw (e, r .0, r .1, r .2)
+    rw (e, c .refuse4 .ensures)
 
 wake-record-requires : tie.Need-wake-record-requires
 wake-record-requires c κs =
@@ -123,8 +119,7 @@ returns-5 c =
     let h = searched at in
     let e : row (start at) ≡ 0 = from8 (room-at at) ∙ sym (number-is h _ (sym (asks-met (ended h) _ some ∙ clear))) in
     let w = rw (own-key h some, ← found-some roleSend _ (h .bytes) (h .sound) _ _ (h .is) some) at (woke .wake-record .ensures) in
-    let r = c .sent .ensures in
-    rw (e, r .0, r .1, r .2, w .starts .ends, w .store, w .starts .out)
+    rw (e, c .sent .ensures, w .starts .ends, w .store, w .starts .out)
 
 pub wake-spec : {M : Type 1} → statement M
 wake-spec =

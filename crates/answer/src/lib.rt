@@ -1,6 +1,7 @@
 // What a call answers: the number (0: done, else a refusal of PROTOCOL's), the run's length and the wake mark.
 
 ghost use mathlib.Core.Path.{_≡_};
+ghost use Rattle.answer.specs.Answers.{bare, sent, accepted};
 
 #[repr(C)]
 pub struct Answer {
@@ -65,7 +66,7 @@ pub const BAD_CALENDAR: u64 = 26;
 
 // A refusal: nothing is sent, nobody wakes.
 pub fn refuse(number: u64) -> Answer
-    ensures { λ r. ⌜ (r .number ≡ number) × (r .run ≡ 0) × (r .wake ≡ 0) ⌝ }
+    ensures { λ r. ⌜ r ≡ bare number ⌝ }
 {
     Answer {
         number: number,
@@ -76,11 +77,22 @@ pub fn refuse(number: u64) -> Answer
 
 // Done, with a run of that length.
 pub fn sent(run: u64) -> Answer
-    ensures { λ r. ⌜ (r .number ≡ 0) × (r .run ≡ run) × (r .wake ≡ 0) ⌝ }
+    ensures { λ r. ⌜ r ≡ sent run ⌝ }
 {
     Answer {
         number: DONE,
         run: run,
         wake: 0,
+    }
+}
+
+// A packet is accepted: the length of its reply, 0 for none, and its wake mark.
+pub fn accept(run: u64, wake: u64) -> Answer
+    ensures { λ r. ⌜ r ≡ accepted run wake ⌝ }
+{
+    Answer {
+        number: DONE,
+        run: run,
+        wake: wake,
     }
 }

@@ -1,4 +1,5 @@
-// What a call answers: the number (0: done, else a refusal of PROTOCOL's), the run's length and the wake mark.
+// What a call answers: the number (0: done, else a refusal of PROTOCOL's), the run's length, the wake mark and
+// how many piece packets a wake sent.
 
 ghost use mathlib.Core.Path.{_≡_};
 ghost use Rattle.answer.specs.Answers.{bare, sent, accepted};
@@ -8,6 +9,7 @@ pub struct Answer {
     pub number: u64,
     pub run: u64,
     pub wake: u64,
+    pub pieces: u64,
 }
 
 pub const DONE: u64 = 0;
@@ -72,17 +74,19 @@ pub fn refuse(number: u64) -> Answer
         number: number,
         run: 0,
         wake: 0,
+        pieces: 0,
     }
 }
 
-// Done, with a run of that length.
-pub fn sent(run: u64) -> Answer
-    ensures { λ r. ⌜ r ≡ sent run ⌝ }
+// Done, with a run of that length and so many piece packets in it.
+pub fn sent(run: u64, pieces: u64) -> Answer
+    ensures { λ r. ⌜ r ≡ sent run pieces ⌝ }
 {
     Answer {
         number: DONE,
         run: run,
         wake: 0,
+        pieces: pieces,
     }
 }
 
@@ -94,5 +98,6 @@ pub fn accept(run: u64, wake: u64) -> Answer
         number: DONE,
         run: run,
         wake: wake,
+        pieces: 0,
     }
 }

@@ -87,5 +87,5 @@ pub fn take(recv: &mut [u8], taken: &mut [u8], run: &mut [u8]) -> Answer
     put_read(recv, run);
     put_message(recv, taken);
     records::release::take_first(recv);
-    answer::sent(READ_ROOM as u64)
+    answer::sent(READ_ROOM as u64, 0)
 }

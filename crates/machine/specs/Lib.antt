@@ -12,6 +12,7 @@ pub mod Find
 pub mod Refusals
 pub mod Pieces
 pub mod Receive
+pub mod Choice
 pub mod Send
 pub mod Outcomes
 pub mod Setup

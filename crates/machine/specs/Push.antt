@@ -62,7 +62,7 @@ pushRow p send out = (sound roleSend send, unsoundStore) ∷ pushTests p (decode
 abbrev pub pushAnswer : Push → List ℕ → List ℕ → SendOutcome
 pushAnswer p send out =
     sendAt (refusal (pushRow p send out)) (pushStep (pushLabel p) (p .created) (p .created + p .try) (p .bytes) (decode send))
-    (initOut (pushLabel p)) send out
+    (initOut (pushLabel p)) 0 send out
 
 -- push, as the code has its parameters
 abbrev pub pushed : List ℕ → ℕ → List ℕ → List ℕ → List ℕ → List ℕ → ℕ → ℕ → Push

@@ -1,19 +1,20 @@
 -- What the tablet's store becomes, and what it sends: PROTOCOL, "The tablet".
 use Prim.Native.Nat.{ℕ, _+_, _*_}
-use mathlib.Core.Bool.{Bool, cond, _&&_, _||_}
+use mathlib.Core.Bool.{Bool, cond, not, _&&_, _||_}
 use mathlib.Core.List.{List, [], _∷_, _++_, map}
 use mathlib.Core.Option.{Option, none, some}
 use lib.ListN.{length, drop}
-use lib.Dec.{eqb, leb}
+use lib.Dec.{eqb}
 use Rattle.octets.specs.Lists.{all}
 use Rattle.blake3.specs.Tree.{blake3}
 use Rattle.packet.specs.Outgoing.{entry, initPacket, chunkPacket, donePacket, abortedPacket}
-use Rattle.machine.specs.Limits.{cutBy, resendAfter, slotsOf}
-use Rattle.machine.specs.Codes.{stateInit, stateInProgress, stateAborted, pieceStarted, pieceSent, pieceAcked}
+use Rattle.machine.specs.Limits.{cutBy, slotsOf}
+use Rattle.machine.specs.Codes.{stateInit, stateInProgress, stateAborted, pieceSent, pieceAcked}
 use Rattle.machine.specs.Values.{Label, Cell, Rec, Store, Key}
 use Rattle.machine.specs.Chains.{first}
 use Rattle.machine.specs.Pieces.{cutPieces, joined, rest}
 use Rattle.machine.specs.Receive.{found, replaced, dropAt}
+use Rattle.machine.specs.Choice.{chosen, among}
 
 -- ---- rebuilding
 
@@ -99,38 +100,42 @@ abortedOut h = sentBy h (abortedPacket (h .id))
 
 -- ---- send wake
 
--- "each piece Started, or Sent with now − stamp ≥ 100 ms; a clock gone back means not due"
-abbrev pub due : ℕ → Cell → Bool
-due clock c = eqb (c .state) pieceStarted || (eqb (c .state) pieceSent && leb (c .stamp + resendAfter) clock)
+-- the pieces that a record sends: only in state 1 and not timed out
+abbrev pub sendsPieces : Rec → Bool
+sendsPieces r = eqb (r .sending .state) stateInProgress && not (eqb (r .sending .timedOut) 1)
 
--- a due piece is sent and stamped
-abbrev pub stamped : ℕ → Cell → Cell
-stamped clock c = cond (due clock c) (marked c clock pieceSent) c
+unfoldable pub sentPieces : ℕ → Rec → List Cell
+sentPieces clock r = cond (sendsPieces r) (chosen clock (r .cells)) []
 
--- the chunks of the due pieces, in index order
-unfoldable pub dueOut : ℕ → Label → List Cell → List ℕ
-dueOut clock h [] = []
-dueOut clock h (c ∷ l) = cond (due clock c) (chunkOut h c) [] ++ dueOut clock h l
+-- their chunks, in the order of sending
+unfoldable pub chunksOut : Label → List Cell → List ℕ
+chunksOut h [] = []
+chunksOut h (c ∷ l) = chunkOut h c ++ chunksOut h l
+
+-- of a record's pieces, those that are sent are stamped
+abbrev pub stamped : ℕ → List Cell → Cell → Cell
+stamped clock those c = cond (among those (c .index)) (marked c clock pieceSent) c
+
+abbrev pub withStamps : ℕ → List Cell → Rec → Rec
+withStamps clock those r = withCells (map (stamped clock those) (r .cells)) r
 
 -- every piece is Acked
 abbrev pub allAcked : List Cell → Bool
 allAcked l = all (λ (c : Cell). eqb (c .state) pieceAcked) l
 
--- state 1: the due pieces in index order; "All Acked: done"
-abbrev pub progressOut : ℕ → Rec → List ℕ
-progressOut clock r = dueOut clock (r .label) (r .cells) ++ cond (allAcked (r .cells)) (doneOut r) []
+-- what else a wake sends: "State 0: init again"; in state 1, "all Acked: done"
+abbrev pub otherOut : Rec → List ℕ
+otherOut r =
+    cond (eqb (r .sending .state) stateInit) (initOut (r .label))
+    (cond (eqb (r .sending .state) stateInProgress && allAcked (r .cells)) (doneOut r) [])
 
--- "nothing if timed out. State 0: init again"
+-- "nothing if timed out"
 unfoldable pub wakeOut : ℕ → Rec → List ℕ
-wakeOut clock r =
-    cond (eqb (r .sending .timedOut) 1) []
-    (cond (eqb (r .sending .state) stateInit) (initOut (r .label)) (cond (eqb (r .sending .state) stateInProgress) (progressOut clock r) []))
+wakeOut clock r = cond (eqb (r .sending .timedOut) 1) [] (chunksOut (r .label) (sentPieces clock r) ++ otherOut r)
 
--- the record after it: in state 1 the due pieces are stamped
+-- the record after it
 unfoldable pub woken : ℕ → Rec → Rec
-woken clock r =
-    cond (eqb (r .sending .timedOut) 1) r
-    (cond (eqb (r .sending .state) stateInProgress) (withCells (map (stamped clock) (r .cells)) r) r)
+woken clock r = withStamps clock (sentPieces clock r) r
 
 -- ---- deadline wake
 

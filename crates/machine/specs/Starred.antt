@@ -15,7 +15,7 @@ use Rattle.machine.specs.Values.{Rec}
 use Rattle.machine.specs.Find.{isSome}
 use Rattle.machine.specs.Pieces.{pieceAt}
 use Rattle.machine.specs.Receive.{found}
-use Rattle.machine.specs.Send.{due}
+use Rattle.machine.specs.Choice.{isDue}
 use Rattle.machine.specs.Samples.{id, frame, init, another, chunk, Seen, hear, opened}
 
 -- ---- what an office answers and holds
@@ -78,7 +78,7 @@ isInit Nothing = 0
 
 -- 1 where a piece sent at 1,000 is due
 abbrev pub dueAt : ℕ → ℕ
-dueAt clock = one (due clock (record { place = 1; index = 0; bytes = []; stamp = 1000; state = pieceSent }))
+dueAt clock = one (isDue clock (record { place = 1; index = 0; bytes = []; stamp = 1000; state = pieceSent }))
 
 -- ---- the table
 

@@ -48,7 +48,7 @@ abbrev pub takeAt : ℕ → List Rec → List ℕ → List ℕ → List ℕ → 
 takeAt n whole recv taken out =
     cond (eqb n 0)
     (record {
-      answer = sent (length (takeOut whole));
+      answer = sent (length (takeOut whole)) 0;
       recv = encode (takeStep (decode recv));
       taken = put taken 0 (takenBytes recv whole);
       out = put out 0 (takeOut whole);

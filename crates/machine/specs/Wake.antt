@@ -7,12 +7,12 @@ use lib.ListN.{length}
 use lib.Dec.{eqb, leb}
 use Rattle.calendar.specs.Calendar.{wellFormed, isOpen}
 use Rattle.machine.specs.Codes.{roleSend, shortOutput, noWork, unsoundStore, badCalendar}
-use Rattle.machine.specs.Values.{Rec, Store}
+use Rattle.machine.specs.Values.{Cell, Rec, Store}
 use Rattle.machine.specs.Layout.{decode}
 use Rattle.machine.specs.Sound.{sound}
 use Rattle.machine.specs.Refusals.{Refusals, refusal, heldRow}
 use Rattle.machine.specs.Receive.{found}
-use Rattle.machine.specs.Send.{change, wakeOut, woken, deadlineOut, deadlineAt}
+use Rattle.machine.specs.Send.{change, sentPieces, wakeOut, woken, deadlineOut, deadlineAt}
 use Rattle.machine.specs.Outcomes.{SendOutcome, sendAt}
 
 -- "Send wake (kind 1)", "Deadline wake (kind 2)"
@@ -43,7 +43,7 @@ inHours w = isOpen (w .calendar) (w .unix)
 
 -- row 2: a wake's run buffer, by its kind
 abbrev pub sendWakeRoom : ℕ
-sendWakeRoom = 34250
+sendWakeRoom = 10960
 
 abbrev pub deadlineWakeRoom : ℕ
 deadlineWakeRoom = 46
@@ -68,6 +68,11 @@ unfoldable pub wakeRun : Wake → Option Rec → List ℕ
 wakeRun w none = []
 wakeRun w (some r) = cond (sends w) (cond (inHours w) (wakeOut (w .clock) r) []) (deadlineOut r)
 
+-- .. and which pieces of it: "the number of piece packets sent" is how many they are
+unfoldable pub wakePieces : Wake → Option Rec → List Cell
+wakePieces w none = []
+wakePieces w (some r) = cond (sends w) (cond (inHours w) (sentPieces (w .clock) r) []) []
+
 -- what becomes of the send store
 unfoldable pub wakeStep : Wake → Store → Store
 wakeStep w s =
@@ -75,7 +80,9 @@ wakeStep w s =
 
 -- what a wake leaves where its row answers n
 abbrev pub wakeAt : ℕ → Wake → List ℕ → List ℕ → SendOutcome
-wakeAt n w send out = sendAt n (wakeStep w (decode send)) (wakeRun w (found (w .id) (decode send .held))) send out
+wakeAt n w send out =
+    let r = found (w .id) (decode send .held) in
+    sendAt n (wakeStep w (decode send)) (wakeRun w r) (length (wakePieces w r)) send out
 
 -- the wake call, with who is woken, how and when as one value
 abbrev pub wakeAnswer : Wake → List ℕ → List ℕ → SendOutcome

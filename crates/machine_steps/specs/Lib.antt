@@ -16,6 +16,9 @@ pub mod Drop
 pub mod Take
 pub mod Frames
 pub mod Valid
+pub mod Waiting
+pub mod Stamps
+pub mod Eight
 pub mod Marks
 pub mod Remarked
 pub mod SendValid

@@ -13,7 +13,8 @@ use Rattle.machine.specs.Values.{Cell}
 use Rattle.machine.specs.Layout.{numberLimit, cellPlace}
 use Rattle.machine.specs.Sound.{cellFits, rising, sizes, isCut}
 use Rattle.machine.specs.Pieces.{joined}
-use Rattle.machine.specs.Send.{marked, ackCell, stamped, due}
+use Rattle.machine.specs.Choice.{among}
+use Rattle.machine.specs.Send.{marked, ackCell, stamped}
 use Rattle.machine.specs.Typed.{TypedClock}
 
 -- f changes nothing but a sender's marks, and those to marks that fit
@@ -71,5 +72,5 @@ pub marks-ack : (index : ℕ) → Marks (ackCell index)
 unfolding capacity
 marks-ack index = marks-if (λ c. eqb (c .index) index) 0 pieceAcked (omega arith) refl
 
-pub marks-stamped : (clock : ℕ) → TypedClock clock → Marks (stamped clock)
-marks-stamped clock t = marks-if (due clock) clock pieceSent t refl
+pub marks-stamped : (clock : ℕ) (those : List Cell) → TypedClock clock → Marks (stamped clock those)
+marks-stamped clock those t = marks-if (λ c. among those (c .index)) clock pieceSent t refl

@@ -5,11 +5,11 @@ use mathlib.Core.Path.{_≡_, refl}
 use mathlib.Core.Option.{Option, none, some}
 use lib.Dec.{eqb}
 use Rattle.octets.specs.BoolsLaws.{cases}
-use Rattle.machine.specs.Codes.{roleSend, stateInProgress, stateAborted}
+use Rattle.machine.specs.Codes.{roleSend, stateAborted}
 use Rattle.machine.specs.Values.{Rec, Store, Key}
 use Rattle.machine.specs.Valid.{Valid}
 use Rattle.machine.specs.Receive.{found}
-use Rattle.machine.specs.Send.{woken, stamped, unsettled, changeAt, change, deadlineAt}
+use Rattle.machine.specs.Send.{sentPieces, woken, stamped, unsettled, changeAt, change, deadlineAt}
 use Rattle.machine.specs.Wake.{Wake, sends, inHours, wakeStep}
 use Rattle.machine.specs.Typed.{TypedClock}
 use Rattle.machine_steps.specs.Change.{changed}
@@ -24,12 +24,8 @@ woken-rec : (clock : ℕ) (k : Key) (r : Rec) (s : Store) → TypedClock clock �
 unfolding woken
 woken-rec clock k r s t e v =
     let h = held-small k r s e v in
-    let same : Valid roleSend (changed r (s .freeCells) s) = restated-valid k r s e v (r .sending .state) (r .sending .timedOut) (h .0) (h .1) in
-    cases (eqb (r .sending .timedOut) 1)
-    (λ a. rw a same)
-    (λ a. cases (eqb (r .sending .state) stateInProgress)
-    (λ b. rw (a, b) (remarked-valid k r s e v (r .sending .state) (r .sending .timedOut) (stamped clock) (h .0) (h .1) (marks-stamped clock t)))
-    (λ b. rw (a, b) same))
+    let those = sentPieces clock r in
+    remarked-valid k r s e v (r .sending .state) (r .sending .timedOut) (stamped clock those) (h .0) (h .1) (marks-stamped clock those t)
 
 pub woken-valid : (clock : ℕ) (k : Key) (s : Store) → TypedClock clock → Valid roleSend s → Valid roleSend (change (woken clock) k s)
 woken-valid clock k s t v = change-at (woken clock) k (found k (s .held)) s refl (λ r e. woken-rec clock k r s t e v) v

@@ -1,2 +1,4 @@
 pub mod Going
 pub mod Packets
+pub mod Lines
+pub mod Choosing

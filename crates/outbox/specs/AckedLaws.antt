@@ -1,17 +1,17 @@
--- Laws of acknowledged pieces: how they are counted, and that nothing is due where every piece is acknowledged. Assumes nothing.
+-- How acknowledged pieces are counted. Assumes nothing.
 use Prim.Native.Nat.{ℕ, suc, _+_, _≤_}
 use native.Mathlib.Omega.{arith}
-use mathlib.Core.Path.{_≡_, refl, sym, ap}
-use mathlib.Core.Bool.{true, false}
+use mathlib.Core.Path.{_≡_, refl, sym}
+use mathlib.Core.Bool.{true}
 use mathlib.Core.List.{List, [], _∷_, map}
 use lib.ListN.{length}
 use lib.Dec.{eqb}
-use borrow.Author.Tests.{eqb-true, eq-eqb, ne-eqb}
+use borrow.Author.Tests.{eqb-true, eq-eqb}
 use Rattle.octets.specs.BoolsLaws.{cases, split, both, iff}
-use Rattle.machine.specs.Codes.{pieceStarted, pieceSent, pieceAcked}
-use Rattle.machine.specs.Values.{Label, Cell}
+use Rattle.machine.specs.Codes.{pieceAcked}
+use Rattle.machine.specs.Values.{Cell}
 use Rattle.machine.specs.Counting.{occurs}
-use Rattle.machine.specs.Send.{due, stamped, dueOut, allAcked}
+use Rattle.machine.specs.Send.{allAcked}
 use Rattle.pieces.specs.InPlace.{pieceState}
 
 -- how many are acknowledged
@@ -41,22 +41,3 @@ pub acked-is : (l : List Cell) → eqb (acked l) (length l) ≡ allAcked l
 acked-is l =
     iff (eqb (acked l) (length l)) (allAcked l)
     (λ e. all-counted l (eqb-true (acked l) (length l) e)) (λ e. eq-eqb (acked l) (length l) (counted-all l e))
-
--- ---- nothing is due
-
-module _ (clock : ℕ) where
-  acked-due : (c : Cell) → eqb (c .state) pieceAcked ≡ true → due clock c ≡ false
-  acked-due c h =
-      let e = eqb-true (c .state) pieceAcked h in
-      rw (ne-eqb (c .state) pieceStarted (λ z. omega arith), ne-eqb (c .state) pieceSent (λ z. omega arith))
-
-  pub acked-out : (h : Label) (l : List Cell) → allAcked l ≡ true → dueOut clock h l ≡ []
-  unfolding dueOut
-  acked-out h [] e = refl
-  acked-out h (c ∷ l) e = let s = split (eqb (c .state) pieceAcked) (allAcked l) e in rw (acked-due c (s .0)) (acked-out h l (s .1))
-
-  pub acked-kept : (l : List Cell) → allAcked l ≡ true → map (stamped clock) l ≡ l
-  acked-kept [] e = refl
-  acked-kept (c ∷ l) e =
-      let s = split (eqb (c .state) pieceAcked) (allAcked l) e in
-      rw (acked-due c (s .0)) (ap (λ (x : List Cell). c ∷ x) (acked-kept l (s .1)))

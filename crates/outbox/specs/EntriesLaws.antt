@@ -2,8 +2,7 @@
 use Prim.Native.Nat.{ℕ, _+_, _*_, _≤_}
 use native.Mathlib.Omega.{arith}
 use mathlib.Core.Path.{_≡_, sym, ap, _∙_}
-use mathlib.Core.Bool.{cond}
-use mathlib.Core.List.{List, []}
+use mathlib.Core.List.{List}
 use lib.ListN.{length}
 use Rattle.octets.specs.Octets.{part}
 use Rattle.octets.specs.PartsLaws.{length-part, part-part}
@@ -12,8 +11,8 @@ use Rattle.packet.specs.LengthsLaws.{length-entry, length-chunk}
 use Rattle.machine.specs.Limits.{recBytes, cutBy}
 use Rattle.machine.specs.Values.{Cell}
 use Rattle.machine.specs.Layout.{idAt, sourceAt, destinationAt, idWidth, addressWidth, recOff, recAt, labelOf, recOf, readRec}
-use Rattle.machine.specs.Send.{sentBy, due, chunkOut}
-use Rattle.outbox.specs.Sending.{namesWidth, namesIn, entryOf, idOf, chunkOf, pieceOut}
+use Rattle.machine.specs.Send.{sentBy, chunkOut}
+use Rattle.outbox.specs.Sending.{namesWidth, namesIn, entryOf, idOf, chunkOf}
 
 -- ---- lengths
 
@@ -55,9 +54,7 @@ module _ (b : List ℕ) (k : ℕ) where
       entry-is (chunkPacket (idOf (namesIn b k)) (c .index) (cutBy * c .index) (c .bytes))
       ∙ ap (λ (x : List ℕ). sentBy (labelOf (recAt b k)) (chunkPacket x (c .index) (cutBy * c .index) (c .bytes))) id-is
 
-  -- what is sent of a piece
-  pub piece-is : (clock : ℕ) {names : List ℕ} → names ≡ namesIn b k → (c : Cell)
-      → pieceOut clock names c ≡ cond (due clock c) (chunkOut (readRec b k .label) c) []
+  -- .. of names that were read
+  pub piece-is : {names : List ℕ} → names ≡ namesIn b k → (c : Cell) → chunkOf names c ≡ chunkOut (readRec b k .label) c
   unfolding recOf
-  piece-is clock named c =
-      ap (λ (v : List ℕ). cond (due clock c) v []) (ap (λ (m : List ℕ). chunkOf m c) named ∙ chunk-is c)
+  piece-is named c = ap (λ (m : List ℕ). chunkOf m c) named ∙ chunk-is c

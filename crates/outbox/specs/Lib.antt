@@ -1,8 +1,9 @@
+pub mod Line
+pub mod LineLaws
 pub mod Sending
 pub mod Leaves
 pub mod HereLaws
 pub mod EntriesLaws
-pub mod EarlyLaws
 pub mod RoomLaws
 pub mod PartlyLaws
 pub mod AckedLaws

@@ -2,7 +2,7 @@
 use Prim.Native.Nat.{ℕ, _+_, _*_, _≤_}
 use mathlib.Core.Path.{_≡_}
 use mathlib.Core.Bool.{cond}
-use mathlib.Core.List.{List, [], map}
+use mathlib.Core.List.{List, [], _++_}
 use lib.ListN.{length, getD}
 use Rattle.octets.specs.Octets.{part, put}
 use Rattle.packet.specs.Frame.{chunkPieceAt}
@@ -12,7 +12,8 @@ use Rattle.machine.specs.Limits.{cutBy}
 use Rattle.machine.specs.Codes.{pieceSent}
 use Rattle.machine.specs.Values.{Cell, Rec, Store}
 use Rattle.machine.specs.Layout.{countAt, idAt, idWidth, addressWidth, recOff, readCell, encode}
-use Rattle.machine.specs.Send.{withCells, due, stamped, dueOut, unsettled, abortedOut}
+use Rattle.machine.specs.Choice.{chosen}
+use Rattle.machine.specs.Send.{chunksOut, allAcked, doneOut, unsettled, abortedOut}
 use Rattle.machine_writes.specs.Links.{Links}
 use Rattle.pieces.specs.InPlace.{remarked}
 
@@ -34,13 +35,6 @@ idOf names = part names 0 idWidth
 unfoldable pub chunkOf : List ℕ → Cell → List ℕ
 chunkOf names c = entryOf names (chunkPacket (idOf names) (c .index) (cutBy * c .index) (c .bytes))
 
--- what a piece puts into the run, and what becomes of the bytes of the store with the piece in the cell at place k
-abbrev pub pieceOut : ℕ → List ℕ → Cell → List ℕ
-pieceOut clock names c = cond (due clock c) (chunkOf names c) []
-
-abbrev pub stampedIn : ℕ → List ℕ → ℕ → List ℕ
-stampedIn clock b k = cond (due clock (readCell b k)) (remarked b k clock pieceSent) b
-
 -- ---- what is asked and given
 
 -- what stands before a piece in a run
@@ -55,28 +49,26 @@ pub record Turn (b names : List ℕ) (k at room : ℕ) : Type 0 where
   pub named : length names ≡ namesWidth
   pub fits : at + chunkFront + length (readCell b k .bytes) ≤ room
 
--- the piece of the cell at place k was sent if it was due: the run goes on at r
+-- the piece of the cell at place k was sent: the run goes on at r
 pub record Sends (clock : ℕ) (names : List ℕ) (k at : ℕ) (b run : List ℕ) (r : ℕ) (b′ run′ : List ℕ) : Type 0 where
-  pub ends : r ≡ at + length (pieceOut clock names (readCell b k))
-  pub store : b′ ≡ stampedIn clock b k
-  pub out : run′ ≡ put run at (pieceOut clock names (readCell b k))
+  pub ends : r ≡ at + length (chunkOf names (readCell b k))
+  pub store : b′ ≡ remarked b k clock pieceSent
+  pub out : run′ ≡ put run at (chunkOf names (readCell b k))
 
 -- `sent` stands at the start of the run, which goes on at r
 pub record Starts (sent run : List ℕ) (r : ℕ) (run′ : List ℕ) : Type 0 where
   pub ends : r ≡ length sent
   pub out : run′ ≡ put run 0 sent
 
--- a record was woken: it sent that, and the store became s
-pub record Wakes (s : Store) (sent run : List ℕ) (r : ℕ) (b′ run′ : List ℕ) : Type 0 where
+-- a record was woken: it sent that, with n pieces in it, those, and the store became s
+pub record Wakes (s : Store) (sent : List ℕ) (those : List Cell) (run : List ℕ) (r n : ℕ) (b′ run′ : List ℕ) : Type 0 where
   pub starts : Starts sent run r run′
+  pub counts : n ≡ length those
   pub store : b′ ≡ encode s
 
--- the record with its due pieces stamped, and their chunks
-abbrev pub stampedDue : ℕ → Rec → Rec
-stampedDue clock r = withCells (map (stamped clock) (r .cells)) r
-
-abbrev pub dueOf : ℕ → Rec → List ℕ
-dueOf clock r = dueOut clock (r .label) (r .cells)
+-- what a record in progress sends: the chosen pieces, or the done
+abbrev pub progressOut : ℕ → Rec → List ℕ
+progressOut clock r = chunksOut (r .label) (chosen clock (r .cells)) ++ cond (allAcked (r .cells)) (doneOut r) []
 
 -- the aborted packet of a record in state 0 or 1
 abbrev pub abortedOf : Rec → List ℕ

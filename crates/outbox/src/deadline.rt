@@ -11,12 +11,12 @@ ghost use Prim.Native.Nat.{_≤_};
 ghost use lib.ListN.{length};
 ghost use lib.Dec.{eqb};
 ghost use Rattle.machine.specs.Codes.{roleSend};
-ghost use Rattle.machine.specs.Layout.{decode};
+ghost use Rattle.machine.specs.Layout.{encode, decode};
 ghost use Rattle.machine.specs.Send.{deadlineOut, deadlineAt};
 ghost use Rattle.machine.specs.Wake.{deadlineWakeRoom};
 ghost use Rattle.records.specs.HeldAt.{recIn, HeldAt};
 ghost use Rattle.outbox.specs.Leaves.{Here};
-ghost use Rattle.outbox.specs.Sending.{abortedOf, Starts, Wakes};
+ghost use Rattle.outbox.specs.Sending.{abortedOf, Starts};
 
 // Whether the record has the timed-out mark: a deadline wake was there before.
 fn is_late(send: &[u8], link: usize) -> bool
@@ -56,7 +56,7 @@ pub fn deadline_wake(send: &mut [u8], link: usize, run: &mut [u8]) -> usize
         let b = now (send .entry) in
         let p = recIn b link in
         let s = deadlineAt (some p) (decode b) in
-        ⌜ Wakes s (deadlineOut p) (now (run .entry)) r (now (send .exit)) (now (run .exit)) ⌝ }
+        ⌜ Starts (deadlineOut p) (now (run .entry)) r (now (run .exit)) × (now (send .exit) ≡ encode s) ⌝ }
 {
     if is_late(send, link) {
         records::release::drop(send, link);

@@ -3,6 +3,7 @@
 // `message_info`. Each step is handed a sound send store and works on its bytes in place; a refusal changes
 // nothing.
 pub mod acks;
+mod choice;
 mod deadline;
 mod done;
 mod due;

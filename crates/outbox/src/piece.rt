@@ -1,4 +1,4 @@
-// A piece that is due is sent: it becomes a chunk of the run, and its cell is stamped.
+// A piece: when its turn comes, and how it is sent: it becomes a chunk of the run, and its cell is stamped.
 use crate::record::DESTINATION;
 use crate::record::NAMES;
 use crate::record::SOURCE;
@@ -20,12 +20,15 @@ ghost use lib.ListN.{length};
 ghost use Rattle.octets.specs.Octets.{put};
 ghost use Rattle.machine.specs.Limits.{resendAfter};
 ghost use Rattle.machine.specs.Layout.{readCell};
-ghost use Rattle.machine.specs.Send.{due};
 ghost use Rattle.pieces.specs.InPlace.{CellIn};
+ghost use Rattle.outbox.specs.Line.{ranked};
 ghost use Rattle.outbox.specs.Sending.{chunkOf, Turn, Sends};
 
 // A piece is sent again after so many milliseconds.
 const RESEND_AFTER: u64 = 100;
+
+// The rank of a piece that is not sent now.
+pub const NEVER: u64 = 18446744073709551615;
 
 // Whether that time has passed since the stamp; a clock gone back means no.
 fn passed(stamp: u64, clock: u64) -> bool
@@ -37,15 +40,22 @@ fn passed(stamp: u64, clock: u64) -> bool
     RESEND_AFTER <= clock - stamp
 }
 
-// Whether the piece in the cell at a place is due.
-pub fn is_due(send: &[u8], place: usize, clock: u64) -> bool
+// When the turn of the piece in the cell at a place comes, a lower number first: 0 if it is Started, one more
+// than its stamp if it is due, else the highest number there is.
+pub fn rank(send: &[u8], place: usize, clock: u64) -> u64
     requires { ⌜ CellIn (now send) place ⌝ }
-    ensures { λ r. ⌜ r ≡ due clock (readCell (now (send .entry)) place) ⌝ }
+    ensures { λ r. ⌜ r ≡ ranked clock (readCell (now (send .entry)) place) ⌝ }
 {
     let row = cell_at(place);
     let state = send[row + Cell::STATE];
-    let again = passed(get64(send, row + Cell::STAMP), clock);
-    (state == STARTED) | ((state == SENT) & again)
+    if state == STARTED {
+        return 0;
+    }
+    let stamp = get64(send, row + Cell::STAMP);
+    if (state == SENT) & passed(stamp, clock) {
+        return stamp + 1;
+    }
+    NEVER
 }
 
 // The piece, put at `at` as a chunk from a source to a destination; answers where it ends.
@@ -76,7 +86,7 @@ fn put_piece(send: &[u8], place: usize, names: &[u8], run: &mut [u8], at: usize)
     at + run::PACKET + MessageChunk::PIECE + size
 }
 
-// The piece, sent and stamped if it is due; answers where the run goes on.
+// The piece, sent and stamped; answers where the run goes on.
 pub fn send_piece(
     send: &mut [u8],
     place: usize,
@@ -91,10 +101,7 @@ pub fn send_piece(
         let names = now (names .entry) in
         ⌜ Sends clock names place at b (now (run .entry)) r (now (send .exit)) (now (run .exit)) ⌝ }
 {
-    if is_due(send, place, clock) {
-        let end = put_piece(send, place, names, run, at);
-        mark(send, place, clock, SENT);
-        return end;
-    }
-    at
+    let end = put_piece(send, place, names, run, at);
+    mark(send, place, clock, SENT);
+    end
 }

@@ -120,7 +120,7 @@ pub fn push(
         let o = now (run .entry) in
         let p = pushes label (now (topic .entry)) (now (bytes .entry)) created «try_ms» in
         ⌜ record { answer = r; send = now (send .exit); out = now (run .exit) }
-        ≡ sendAt (refusal (pushTests p (decode b) (length o))) (pushedInto p (decode b)) (initOut (pushLabel p)) b o ⌝ }
+        ≡ sendAt (refusal (pushTests p (decode b) (length o))) (pushedInto p (decode b)) (initOut (pushLabel p)) 0 b o ⌝ }
 {
     let id = label.id;
     let number = refusal(send, &id, topic, bytes, created, try_ms, run.len());
@@ -133,5 +133,5 @@ pub fn push(
     };
     hold(send, label, topic, bytes, times);
     run::put_init(run, 0, label, topic);
-    answer::sent((run::PACKET + MessageInit::TOPIC + topic.len()) as u64)
+    answer::sent((run::PACKET + MessageInit::TOPIC + topic.len()) as u64, 0)
 }

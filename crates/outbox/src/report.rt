@@ -84,5 +84,5 @@ pub fn report(send: &[u8], id: &[u8], out: &mut [u8]) -> Answer
         return answer::refuse(answer::UNKNOWN_ID);
     }
     put_report(send, link, out);
-    answer::sent(0)
+    answer::sent(0, 0)
 }

@@ -1,16 +1,20 @@
 // The wakes: PROTOCOL, "The tablet".
+use crate::choice::MOST;
 use crate::deadline::deadline_wake;
 use crate::done::all_acked;
 use crate::done::put_done;
+use crate::due::Sent;
 use crate::due::send_due;
 use crate::init::put_init;
 use crate::record::names_at;
 use answer::Answer;
 use calendar::is_open;
 use calendar::well_formed;
+use packet::chunk::MessageChunk;
 use packet::header;
 use packet::run;
 use records::field;
+use rows::message::CUT_BYTES;
 use rows::record::IN_PROGRESS;
 use rows::record::INIT;
 ghost use mathlib.Core.Path.{_≡_};
@@ -22,62 +26,73 @@ ghost use lib.Dec.{eqb};
 ghost use Rattle.machine.specs.Codes.{roleSend};
 ghost use Rattle.machine.specs.Layout.{decode};
 ghost use Rattle.machine.specs.Refusals.{refusal};
-ghost use Rattle.machine.specs.Send.{change, progressOut, wakeOut, woken};
+ghost use Rattle.machine.specs.Choice.{chosen};
+ghost use Rattle.machine.specs.Send.{change, withStamps, sentPieces, wakeOut, woken};
 ghost use Rattle.calendar.specs.Calendar.{wellFormed};
 ghost use Rattle.machine.specs.Wake.{sendWake, deadlineWake, sendWakeRoom, wakeRoom};
-ghost use Rattle.machine.specs.Wake.{waking, dated, wakeTests, wakeRun, wakeStep, wakeAt};
+ghost use Rattle.machine.specs.Wake.{waking, dated, wakeTests, wakeRun, wakePieces, wakeStep, wakeAt};
 ghost use Rattle.records.specs.HeldAt.{recIn, keyIn, HeldAt, Sends};
 ghost use Rattle.outbox.specs.Leaves.{Here};
-ghost use Rattle.outbox.specs.Sending.{Wakes, stampedDue};
+ghost use Rattle.outbox.specs.Sending.{progressOut, Wakes};
 
 // The kinds of a wake.
 const SEND: u64 = 1;
 
 const DEADLINE: u64 = 2;
 
-// What the run of a send wake takes at most, and that of a deadline wake.
-const SEND_ROOM: usize = 34250;
+// What the run of a send wake takes at most, eight whole pieces, and that of a deadline wake.
+const SEND_ROOM: usize = MOST * (run::PACKET + MessageChunk::PIECE + CUT_BYTES);
 
 const DEADLINE_ROOM: usize = run::PACKET + header::SIZE;
 
-// A record in progress: its due pieces are sent, or the done once every piece is acknowledged; answers where
-// the run ends.
-fn progress(send: &mut [u8], link: usize, clock: u64, run: &mut [u8]) -> usize
+// A run that ends there and has no piece packet.
+fn other(end: usize) -> Sent
+    ensures { λ r. ⌜ (r .end ≡ end) × (r .pieces ≡ 0) ⌝ }
+{
+    Sent {
+        end: end,
+        pieces: 0,
+    }
+}
+
+// A record in progress: the done once every piece is acknowledged, else the pieces whose turn it is.
+fn progress(send: &mut [u8], link: usize, clock: u64, run: &mut [u8]) -> Sent
     requires { ⌜ Here (now send) link × (sendWakeRoom ≤ length (now run)) ⌝ }
     ensures { λ r.
         let b = now (send .entry) in
-        let s = change (stampedDue clock) (keyIn b link) (decode b) in
+        let those = chosen clock (recIn b link .cells) in
+        let s = change (withStamps clock those) (keyIn b link) (decode b) in
         let sent = progressOut clock (recIn b link) in
-        ⌜ Wakes s sent (now (run .entry)) r (now (send .exit)) (now (run .exit)) ⌝ }
+        ⌜ Wakes s sent those (now (run .entry)) (r .end) (r .pieces) (now (send .exit)) (now (run .exit)) ⌝ }
 {
     if all_acked(send, link) {
-        return put_done(send, link, run);
+        return other(put_done(send, link, run));
     }
     let names = names_at(send, link);
     send_due(send, link, &names, clock, run)
 }
 
-// What the record that the link at byte `link` leads to sends, at the start of the run; answers where it
-// ends.
-pub fn send_wake(send: &mut [u8], link: usize, clock: u64, run: &mut [u8]) -> usize
+// What the record that the link at byte `link` leads to sends, at the start of the run.
+pub fn send_wake(send: &mut [u8], link: usize, clock: u64, run: &mut [u8]) -> Sent
     requires { ⌜ HeldAt roleSend (now send) link × (sendWakeRoom ≤ length (now run)) ⌝ }
     ensures { λ r.
         let b = now (send .entry) in
         let s = change (woken clock) (keyIn b link) (decode b) in
         let sent = wakeOut clock (recIn b link) in
-        ⌜ Wakes s sent (now (run .entry)) r (now (send .exit)) (now (run .exit)) ⌝ }
+        let those = sentPieces clock (recIn b link) in
+        ⌜ Wakes s sent those (now (run .entry)) (r .end) (r .pieces) (now (send .exit)) (now (run .exit)) ⌝ }
 {
     if field::timed_out(send, link) == 1 {
-        return 0;
+        return other(0);
     }
     let state = field::state(send, link);
     if state == INIT {
-        return put_init(send, link, run);
+        return other(put_init(send, link, run));
     }
     if state == IN_PROGRESS {
         return progress(send, link, clock, run);
     }
-    0
+    other(0)
 }
 
 // Row 20: whether there is a wake of that kind.
@@ -107,8 +122,7 @@ fn room(kind: u64) -> usize
     DEADLINE_ROOM
 }
 
-// The record that the link at byte `link` leads to is woken; answers where the run ends. Outside hours a send
-// wake does nothing.
+// The record that the link at byte `link` leads to is woken. Outside hours a send wake does nothing.
 fn wake_record(
     send: &mut [u8],
     kind: u64,
@@ -117,7 +131,7 @@ fn wake_record(
     calendar: &[u8],
     unix_ms: u64,
     run: &mut [u8],
-) -> usize
+) -> Sent
     requires { let w = waking kind (keyIn (now send) link) clock (now calendar) «unix_ms» in
         ⌜ Here (now send) link × (dated w ≡ true) × (wakeRoom kind ≤ length (now run)) ⌝ }
     ensures { λ r.
@@ -125,13 +139,14 @@ fn wake_record(
         let w = waking kind (keyIn b link) clock (now (calendar .entry)) «unix_ms» in
         let s = wakeStep w (decode b) in
         let sent = wakeRun w (some (recIn b link)) in
-        ⌜ Wakes s sent (now (run .entry)) r (now (send .exit)) (now (run .exit)) ⌝ }
+        let those = wakePieces w (some (recIn b link)) in
+        ⌜ Wakes s sent those (now (run .entry)) (r .end) (r .pieces) (now (send .exit)) (now (run .exit)) ⌝ }
 {
     if kind != SEND {
-        return deadline_wake(send, link, run);
+        return other(deadline_wake(send, link, run));
     }
     if !is_open(calendar, unix_ms) {
-        return 0;
+        return other(0);
     }
     send_wake(send, link, clock, run)
 }
@@ -171,6 +186,6 @@ pub fn wake(
     if send[link] == 0 {
         return answer::refuse(answer::UNKNOWN_ID);
     }
-    let end = wake_record(send, kind, link, clock, calendar, unix_ms, run);
-    answer::sent(end as u64)
+    let sent = wake_record(send, kind, link, clock, calendar, unix_ms, run);
+    answer::sent(sent.end as u64, sent.pieces)
 }

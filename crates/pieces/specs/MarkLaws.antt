@@ -1,5 +1,5 @@
 -- A piece's stamp and state are written: the store that the bytes then hold. Assumes nothing.
-use Prim.Native.Nat.{ℕ, suc, _+_, _≤_, _<_}
+use Prim.Native.Nat.{ℕ, _+_}
 use native.Mathlib.Omega.{arith}
 use mathlib.Core.Path.{_≡_, refl, sym, ap, _∙_, subst}
 use mathlib.Core.Bool.{true}
@@ -9,18 +9,18 @@ use borrow.Author.Tests.{eq-eqb, ne-eqb}
 use Rattle.octets.specs.Octets.{put, be}
 use Rattle.octets.specs.NumbersLaws.{length-be}
 use Rattle.machine.specs.Limits.{cellBytes, storeBytes}
-use Rattle.machine.specs.Codes.{pieceSent, pieceAcked}
+use Rattle.machine.specs.Codes.{pieceAcked}
 use Rattle.machine.specs.Values.{Cell, Rec, Store}
 use Rattle.machine.specs.Chains.{first}
 use Rattle.machine.specs.Layout.{numberWidth, stampAt, cellPlace, cellRow}
 use Rattle.machine.specs.Sound.{rising}
 use Rattle.machine.specs.Valid.{Valid}
-use Rattle.machine.specs.Send.{withCells, marked, ackCell, ackPiece, due, stamped}
+use Rattle.machine.specs.Send.{withCells, marked, ackCell, ackPiece}
 use Rattle.machine_laws.specs.Rep.{Rep}
 use Rattle.machine_laws.specs.Write.{Wrote, write-field}
 use Rattle.machine_writes.specs.Swap.{heldStore}
 use Rattle.machine_writes.specs.CellSwap.{cell-rep}
-use Rattle.machine_steps.specs.Pieces.{rising-parts}
+use Rattle.machine_steps.specs.Stamps.{only-at}
 use Rattle.pieces.specs.InPlace.{remarked}
 use Rattle.pieces.specs.HeldLaws.{piece-in, piece-row, fine}
 
@@ -32,28 +32,11 @@ mark-row next stamp state c = refl
 -- ---- an acknowledged piece
 
 -- no other piece has its index
-ack-others : (i low high : ℕ) (l : List Cell) → i < low → rising low high l ≡ true → map (ackCell i) l ≡ l
-ack-others i low high [] a h = refl
-ack-others i low high (c ∷ l) a h =
-    let r = rising-parts low high c l h in
-    rw (ne-eqb (c .index) i (λ e. omega (arith, r .0))) (ap (λ (x : List Cell). c ∷ x) (ack-others i (suc (c .index)) high l (omega (arith, r .0)) (r .2)))
-
 pub ack-is : (low high : ℕ) (cl : List Cell) (c : Cell) (cm : List Cell) → rising low high (cl ++ (c ∷ cm)) ≡ true
     → map (ackCell (c .index)) (cl ++ (c ∷ cm)) ≡ cl ++ (marked c 0 pieceAcked ∷ cm)
-ack-is low high [] c cm h =
-    let r = rising-parts low high c cm h in
-    rw (eq-eqb (c .index) (c .index) refl)
-    (ap (λ (x : List Cell). marked c 0 pieceAcked ∷ x) (ack-others (c .index) (suc (c .index)) high cm (omega arith) (r .2)))
-ack-is low high (a ∷ cl) c cm h =
-    let r = rising-parts low high a (cl ++ (c ∷ cm)) h in
-    rw (ne-eqb (a .index) (c .index) (λ e. omega (arith, later (suc (a .index)) high cl c cm (r .2))))
-    (ap (λ (x : List Cell). a ∷ x) (ack-is (suc (a .index)) high cl c cm (r .2)))
-  where
-    later : (low high : ℕ) (cl : List Cell) (c : Cell) (cm : List Cell) → rising low high (cl ++ (c ∷ cm)) ≡ true → low ≤ c .index
-    later low high [] c cm h = rising-parts low high c cm h .0
-    later low high (a ∷ cl) c cm h =
-        let r = rising-parts low high a (cl ++ (c ∷ cm)) h in
-        omega (arith, r .0, later (suc (a .index)) high cl c cm (r .2))
+ack-is low high cl c cm h =
+    only-at (ackCell (c .index)) (c .index) (λ a e. rw (ne-eqb (a .index) (c .index) e)) low high cl c cm refl h
+    ∙ rw (eq-eqb (c .index) (c .index) refl)
 
 -- ---- the store
 
@@ -85,7 +68,3 @@ module _ (role : ℕ) (s : Store) (v : Valid role s) (b : List ℕ) (rep : Rep s
       sym (ap (map (ackCell (c .index))) parts
       ∙ ack-is 0 (r .slots) cl c cm (subst (λ (x : List Cell). rising 0 (r .slots) x ≡ true) parts (fine role s v l r m is .rises))) in
       subst (λ (x : List Cell). Rep (with x) (remarked b (c .place) 0 pieceAcked)) e (mark-rep 0 pieceAcked)
-
-  -- a due piece is stamped
-  pub stamp-rep : (clock : ℕ) → due clock c ≡ true → Rep (with (cl ++ (stamped clock c ∷ cm))) (remarked b (c .place) clock pieceSent)
-  stamp-rep clock e = rw e (mark-rep clock pieceSent)

@@ -35,7 +35,7 @@ answered s l =
     let a = s .args in
     let p : Push = pushes l (a .topic .now) (a .bytes .now) (a .created) (a .try-ms) in
     let b = decode (a .send .now) in
-    sendAt (refusal (pushTests p b (length (a .run .now)))) (pushedInto p b) (initOut (pushLabel p)) (a .send .now) (a .run .now)
+    sendAt (refusal (pushTests p b (length (a .run .now)))) (pushedInto p b) (initOut (pushLabel p)) 0 (a .send .now) (a .run .now)
 
 -- a reply mark is 1 or 0 where it is carried, and any number where it is pushed
 marked : (n : ℕ) → one (yes (one (yes n))) ≡ one (yes n)

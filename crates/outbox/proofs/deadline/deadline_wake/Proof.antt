@@ -27,7 +27,7 @@ returns c =
     let again = drop .before .before in
     let late = again .before in
     rw (sym (late .is-late .ensures) ∙ again .if1 .taken)
-    (record { starts = nothing; store = rw (found-here (found (known late))) at (drop .drop .ensures) })
+    (nothing, rw (found-here (found (known late))) at (drop .drop .ensures))
 
 put-aborted-requires : tie.Need-put-aborted-requires
 put-aborted-requires c κs = let k = known (c .before .before .before) in (found k, k .before .pre .1)
@@ -40,7 +40,7 @@ returns-2 c =
     let first = put .before .before .before in
     let late = first .before in
     rw (sym (late .is-late .ensures) ∙ first .if1 .left)
-    (record { starts = put .put-aborted .ensures; store = marked .time-out .ensures ∙ ap encode (change-is (found (known late)) timedOut) })
+    (put .put-aborted .ensures, marked .time-out .ensures ∙ ap encode (change-is (found (known late)) timedOut))
 
 pub deadline-wake-spec : {M : Type 1} → statement M
 deadline-wake-spec =

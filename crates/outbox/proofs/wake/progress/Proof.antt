@@ -10,9 +10,10 @@ start c = c .before .before .before .before
 
 returns : tie.Need-returns
 returns c =
-    let put = c .before .before in
+    let put = c .before .before .before in
     let all = put .before .before .before in
-    progress-done (start (all .before) .pre .0) _ (sym (all .before .all-acked .ensures) ∙ all .if1 .taken) (put .put-done .ensures)
+    let none = c .other .ensures in
+    rw (none .0, none .1) (progress-done (start (all .before) .pre .0) _ (sym (all .before .all-acked .ensures) ∙ all .if1 .taken) (put .put-done .ensures))
 
 send-due-requires : tie.Need-send-due-requires
 send-due-requires c κs =
@@ -25,10 +26,10 @@ returns-2 c =
     let went = c .before .before .before .before in
     let some = went .before .before .before .before .before .before in
     let acked = some .before in
-    alike refl (progress-due (start acked .pre .0) _ (sym (acked .all-acked .ensures) ∙ some .if1 .left)) (went .send-due .ensures)
+    alike refl (progress-due (start acked .pre .0) _ (sym (acked .all-acked .ensures) ∙ some .if1 .left)) refl (went .send-due .ensures)
 
 pub progress-spec : {M : Type 1} → statement M
 progress-spec =
     tie.close
-    (tie.spec (λ c. search needs) (λ c. search needs) (search needs) (search needs) returns
+    (tie.spec (λ c. search needs) (λ c. search needs) (search needs) (search needs) (search needs) returns
     (λ c. search needs) (search needs) send-due-requires (search needs) (search needs) returns-2)

@@ -20,18 +20,23 @@ state-requires : tie.Need-state-requires
 state-requires c κs = found (known (c .before .before)) .reached
 
 returns : tie.Need-returns
-returns c = let mark = c .before in woke-late (found (known mark)) _ (mark .timed-out .ensures) (c .if1 .taken)
+returns c =
+    let mark = c .before .before in
+    let none = c .other .ensures in
+    rw (none .0, none .1) (woke-late (found (known mark)) _ (mark .timed-out .ensures) (c .before .if1 .taken))
 
 put-init-requires : tie.Need-put-init-requires
 put-init-requires c κs = let k = known (timely (c .before .before .before) .before) in (found k, k .before .pre .1)
 
 returns-2 : tie.Need-returns-2
 returns-2 c =
-    let put = c .before .before in
+    let put = c .before .before .before in
+    let none = c .other2 .ensures in
     let init = put .before .before .before in
     let read = init .before in
     let mark = timely read .before in
-    woke-init (found (known mark)) _ (mark .timed-out .ensures) (timely read .if1 .left) (read .state .ensures) (init .if2 .taken) (put .put-init .ensures)
+    rw (none .0, none .1)
+    (woke-init (found (known mark)) _ (mark .timed-out .ensures) (timely read .if1 .left) (read .state .ensures) (init .if2 .taken) (put .put-init .ensures))
 
 progress-requires : tie.Need-progress-requires
 progress-requires c κs = let k = known (timely (c .before .before .before .before) .before) in (found k, k .before .pre .1)
@@ -47,13 +52,16 @@ returns-3 c =
 
 returns-4 : tie.Need-returns-4
 returns-4 c =
-    let read = c .before .before in
+    let other = c .before in
+    let read = other .before .before in
     let mark = timely read .before in
-    woke-settled (found (known mark)) _ (mark .timed-out .ensures) (timely read .if1 .left) (read .state .ensures) (c .before .if2 .left) (c .if3 .left)
+    let none = c .other3 .ensures in
+    rw (none .0, none .1)
+    (woke-settled (found (known mark)) _ (mark .timed-out .ensures) (timely read .if1 .left) (read .state .ensures) (other .before .if2 .left) (other .if3 .left))
 
 pub send-wake-spec : {M : Type 1} → statement M
 send-wake-spec =
     tie.close
-    (tie.spec (λ c κs. found (c .before .before) .reached) (search needs) returns state-requires
-    put-init-requires (search needs) (search needs) returns-2
-    progress-requires (search needs) (search needs) returns-3 (search needs) returns-4)
+    (tie.spec (λ c κs. found (c .before .before) .reached) (search needs) (search needs) returns state-requires
+    put-init-requires (search needs) (search needs) (search needs) returns-2
+    progress-requires (search needs) (search needs) returns-3 (search needs) (search needs) returns-4)

@@ -119,7 +119,7 @@ returns-5 c =
     let h = searched at in
     let e : row (start at) ≡ 0 = from8 (room-at at) ∙ sym (number-is h _ (sym (asks-met (ended h) _ some ∙ clear))) in
     let w = rw (own-key h some, ← found-some roleSend _ (h .bytes) (h .sound) _ _ (h .is) some) at (woke .wake-record .ensures) in
-    rw (e, c .sent .ensures, w .starts .ends, w .store, w .starts .out)
+    rw (e, c .sent .ensures, w .starts .ends, w .counts, w .store, w .starts .out)
 
 pub wake-spec : {M : Type 1} → statement M
 wake-spec =

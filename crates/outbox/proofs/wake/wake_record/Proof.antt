@@ -1,11 +1,11 @@
 -- By the kind, and for a send wake by the hours. Assumes nothing.
-use mathlib.Core.Path.{_≡_, sym, _∙_}
+use mathlib.Core.Path.{_≡_, refl, sym, _∙_}
 use mathlib.Core.Bool.{true}
 use lib.Dec.{eqb}
 use borrow.Author.Tests.{eq-eqb, ne-eqb, not-true, not-false}
 use Rattle.calendar.specs.Calendar.{wellFormed}
 use Rattle.machine.specs.Codes.{roleSend}
-use Rattle.machine.specs.Wake.{sendWake, wakeRun, wakeStep}
+use Rattle.machine.specs.Wake.{sendWake, wakeRun, wakePieces, wakeStep}
 use Rattle.machine_laws.specs.SoundValid.{sound-valid}
 use Rattle.outbox.specs.HereLaws.{found-here}
 use Rattle.outbox.specs.WokenLaws.{nothing}
@@ -28,11 +28,14 @@ deadline-wake-requires c κs =
     (p .0 .held, rw (ne-eqb (begin1 at .args .kind) sendWake (at .if1 .taken)) at (p .2))
 
 returns : tie.Need-returns
-unfolding wakeRun wakeStep
+unfolding wakeRun wakePieces wakeStep
 returns c =
-    let woke = c .before .before .before .before in
+    let woke = c .before .before .before .before .before in
     let at = woke .before .before .before in
-    rw (ne-eqb (begin1 at .args .kind) sendWake (at .if1 .taken), found-here (begin1 at .pre .0)) (woke .deadline-wake .ensures)
+    let none = c .other .ensures in
+    let ends = woke .deadline-wake .ensures in
+    rw (none .0, none .1, ne-eqb (begin1 at .args .kind) sendWake (at .if1 .taken), found-here (begin1 at .pre .0))
+    (record { starts = ends .0; counts = refl; store = ends .1 })
 
 -- a send wake
 is-send : (c : tie.Else1) → eqb (begin c .args .kind) sendWake ≡ true
@@ -42,12 +45,15 @@ formed : (c : tie.Else1) → wellFormed (begin c .args .calendar .now) ≡ true
 formed c = rw (is-send c) at (begin c .pre .1)
 
 returns-2 : tie.Need-returns-2
-unfolding wakeRun wakeStep
+unfolding wakeRun wakePieces wakeStep
 returns-2 c =
-    let s = c .before .before in
-    let shut = sym (c .before .is-open .ensures) ∙ not-true _ (c .if2 .taken) in
+    let closed = c .before in
+    let s = closed .before .before in
+    let shut = sym (closed .before .is-open .ensures) ∙ not-true _ (closed .if2 .taken) in
     let here = begin s .pre .0 in
-    record { starts = rw (is-send s, shut) nothing; store = rw (is-send s, shut) (sym (sound-valid roleSend _ (here .bytes) (here .held .sound) .1)) }
+    let none = c .other2 .ensures in
+    rw (none .0, none .1, is-send s, shut)
+    (record { starts = nothing; counts = refl; store = sym (sound-valid roleSend _ (here .bytes) (here .held .sound) .1) })
 
 send-wake-requires : tie.Need-send-wake-requires
 send-wake-requires c κs =
@@ -55,7 +61,7 @@ send-wake-requires c κs =
     (begin s .pre .0 .held, rw (is-send s) at (begin s .pre .2))
 
 returns-3 : tie.Need-returns-3
-unfolding wakeRun wakeStep
+unfolding wakeRun wakePieces wakeStep
 returns-3 c =
     let woke = c .before .before .before .before in
     let within = woke .before .before .before in
@@ -65,5 +71,5 @@ returns-3 c =
 pub wake-record-spec : {M : Type 1} → statement M
 wake-record-spec =
     tie.close
-    (tie.spec deadline-wake-requires (search needs) (search needs) returns
-    (λ c κs. formed c) returns-2 send-wake-requires (search needs) (search needs) returns-3)
+    (tie.spec deadline-wake-requires (search needs) (search needs) (search needs) returns
+    (λ c κs. formed c) (search needs) returns-2 send-wake-requires (search needs) (search needs) returns-3)

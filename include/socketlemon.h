@@ -18,11 +18,13 @@ extern "C" {
 #endif
 
 /* What a call answers: the number (0: done, else one of the refusals below, which changed nothing), how many bytes of
- * the run were written, and whether all senders should wake. */
+ * the run were written, whether all senders should wake, and how many of the run's packets are pieces: 0 to 8 for a send
+ * wake, 0 for every other call. */
 typedef struct {
     uint64_t number;
     uint64_t run;
     uint64_t wake;
+    uint64_t pieces;
 } socketlemon_answer;
 
 /* The refusals, by the trade words of docs/PROTOCOL.md, which says when each is answered; how many there are. */
@@ -65,11 +67,14 @@ typedef struct {
 #define SOCKETLEMON_FRAME 1400
 #define SOCKETLEMON_PACKET_RUN 86
 #define SOCKETLEMON_PUSH_RUN 310
-#define SOCKETLEMON_WAKE_RUN 34250
+#define SOCKETLEMON_WAKE_RUN 10960
 #define SOCKETLEMON_TAKE_RUN 46
 #define SOCKETLEMON_TAKE_DATA (328 + 32500)
 #define SOCKETLEMON_REPORT 44
 #define SOCKETLEMON_ADDRESS 16
+
+/* The most pieces that a wake sends. */
+#define SOCKETLEMON_WAKE_PIECES 8
 
 /* The bytes of a calendar with so many closed dates, 0 to 32. */
 #define SOCKETLEMON_CALENDAR(dates) (31 + 4 * (size_t)(dates))
@@ -94,6 +99,8 @@ socketlemon_answer socketlemon_push(uint8_t *send, size_t send_len, const uint8_
 
 /* Wakes a message: kind 1 sends what is due, if the calendar is open at `unix_ms`, and else does nothing; kind 2 lets the
  * deadline pass, and reads no calendar. Due is what `clock` says; hours go by `unix_ms` alone, milliseconds since 1970 in UTC.
+ * Of the pieces that are due at most eight are sent: those never sent yet by index, then those sent longest ago. Call again for
+ * the others, best when acknowledgements have come.
  * A calendar is for each weekday from Monday on its opening and its closing minute (2 bytes each; 0 to 1,440, the closing one
  * not included; two zeros: closed all day), the offset of local time from UTC in minutes, plus 720 (2; 0 to 1,560), the number
  * of closed dates (1; 0 to 32), and for each its year (2; 1970 to 9999), month (1) and day (1). Numbers are big-endian. */

@@ -4,13 +4,14 @@
 //! never null, and what is written is borrowed mutably, so it overlaps with no other argument. The library keeps no pointer, has no other state and never
 //! unwinds, and it is proved to stay within the lengths on any bytes.
 
-/// The three numbers of an answer.
+/// The four numbers of an answer.
 #[repr(C)]
 #[derive(Clone, Copy, Debug, PartialEq, Eq)]
 pub(crate) struct Answer {
     pub number: u64,
     pub run: u64,
     pub wake: u64,
+    pub pieces: u64,
 }
 
 extern "C" {

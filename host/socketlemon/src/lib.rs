@@ -109,11 +109,14 @@ pub const PACKET_RUN: usize = 86;
 /// The run buffer that is enough for [`Store::push`].
 pub const PUSH_RUN: usize = 310;
 
-/// The run buffer that is enough for [`Store::wake`].
-pub const WAKE_RUN: usize = 34_250;
+/// The most pieces that a [`Store::wake`] sends.
+pub const WAKE_PIECES: usize = 8;
+
+/// The run buffer that is enough for [`Store::wake`]: so many pieces, each with its addresses and header.
+pub const WAKE_RUN: usize = WAKE_PIECES * (2 + 32 + 36 + PIECE);
 
 /// The run buffer that is enough for [`Store::take`].
 pub const TAKE_RUN: usize = 46;
 
-/// The run buffer that is enough for every call.
+/// The run buffer that is enough for every call: a wake's is the longest.
 pub const LONGEST_RUN: usize = WAKE_RUN;

@@ -8,16 +8,29 @@ const ADDRESS: usize = 16;
 /// The bytes before a packet in a run: its count and its two addresses.
 const ENTRY_HEAD: usize = COUNT + 2 * ADDRESS;
 
+/// The flags of a piece in a packet's byte 8: the first of these that is set says what a packet is.
+const FLAGS_PLACE: usize = 8;
+const INIT: u8 = 0x80;
+const CHUNK: u8 = 0x10;
+const ACK: u8 = 0x01;
+
 /// The outgoing packets of a call, in the part of the run buffer that was written.
 #[derive(Clone, Copy, Debug, PartialEq, Eq)]
 pub struct Run<'a> {
     bytes: &'a [u8],
+    pieces: usize,
 }
 
 impl<'a> Run<'a> {
     /// Any bytes as a run. Those of the library are whole; of others, the packets before the first cut one are seen.
     pub fn from_bytes(bytes: &'a [u8]) -> Run<'a> {
-        Run { bytes }
+        let pieces = Packets { rest: bytes }.filter(Packet::is_piece).count();
+        Run { bytes, pieces }
+    }
+
+    /// The run of a call, with the number of pieces that the library has answered.
+    pub(crate) fn answered(bytes: &'a [u8], pieces: usize) -> Run<'a> {
+        Run { bytes, pieces }
     }
 
     /// The run's bytes.
@@ -28,6 +41,14 @@ impl<'a> Run<'a> {
     /// Whether nothing is to be sent.
     pub fn is_empty(&self) -> bool {
         self.bytes.is_empty()
+    }
+
+    /// How many of the packets are pieces of a message, at most [`WAKE_PIECES`](crate::WAKE_PIECES). Only a
+    /// [`Wake::Send`](crate::Wake::Send) sends any.
+    ///
+    /// For the run of a call this is the number that the library answers, for [`Run::from_bytes`] it is counted.
+    pub fn pieces(&self) -> usize {
+        self.pieces
     }
 
     /// The packets, in the order in which they are to be sent.
@@ -54,6 +75,13 @@ pub struct Packet<'a> {
     pub to: Address,
     /// The packet itself.
     pub bytes: &'a [u8],
+}
+
+impl Packet<'_> {
+    /// Whether it brings a piece of a message.
+    fn is_piece(&self) -> bool {
+        self.bytes.get(FLAGS_PLACE).map_or(false, |flags| flags & (INIT | CHUNK | ACK) == CHUNK)
+    }
 }
 
 /// The packets of a run. It ends at the end of the bytes or at the first entry that is cut, and never panics.
@@ -117,6 +145,21 @@ mod tests {
             assert_eq!(packets.next(), None, "it stays ended");
         }
         assert_eq!(Run::from_bytes(&bytes).packets().count(), 2);
+    }
+
+    #[test]
+    fn pieces_are_counted_by_their_flags() {
+        let with = |flags: u8| entry(1, 2, &[&[7; 8][..], &[flags, 0, 0, 0]].concat());
+        let count = |bytes: &[u8]| Run::from_bytes(bytes).pieces();
+        for (flags, is_piece) in [(0x10, 1), (0x50, 1), (0x11, 0), (0x90, 0), (0x80, 0), (0x40, 0), (0, 0)] {
+            assert_eq!(count(&with(flags)), is_piece, "flags {flags:#04x}");
+        }
+        let three = [with(0x10), with(0x40), with(0x10), with(0x10)].concat();
+        assert_eq!(count(&three), 3);
+        assert_eq!(count(&three[..three.len() - 1]), 2, "the last is cut");
+        assert_eq!(count(&entry(1, 2, &[0x10; 8])), 0, "a packet without flags");
+        assert_eq!(count(&[]), 0);
+        assert_eq!(Run::answered(&three, 2).pieces(), 2, "what a call answers is not counted anew");
     }
 
     #[test]

@@ -152,6 +152,9 @@ impl Store {
 
     /// Wakes a message of the send store. The run buffer has at least [`WAKE_RUN`](crate::WAKE_RUN) bytes.
     ///
+    /// A [`Wake::Send`] sends at most [`WAKE_PIECES`](crate::WAKE_PIECES) pieces, in this order: those never sent yet by index, then those that are due
+    /// again, the one sent longest ago first. [`Run::pieces`] says how many; where that is the most, others may be left for the next wake.
+    ///
     /// Outside the hours of its calendar a [`Wake::Send`] sends nothing and changes nothing: the run is empty.
     pub fn wake<'r>(&mut self, wake: Wake<'_>, id: Id, run: &'r mut [u8]) -> Result<Run<'r>, Refusal> {
         let bytes = &mut self.bytes;
@@ -186,8 +189,8 @@ impl Store {
 
 /// The part of a run buffer that a call has written.
 fn written(run: &mut [u8], answer: ffi::Answer) -> Run<'_> {
-    let length = usize::try_from(answer.run).unwrap_or(usize::MAX).min(run.len());
-    Run::from_bytes(&run[..length])
+    let [length, pieces] = [answer.run, answer.pieces].map(|n| usize::try_from(n).unwrap_or(usize::MAX));
+    Run::answered(&run[..length.min(run.len())], pieces)
 }
 
 fn done(answer: ffi::Answer) -> Result<(), Refusal> {

@@ -281,3 +281,23 @@ fn parts_are_read_as_they_are_shown() {
     assert_eq!(shown("UTC", 253_402_300_799_999), "Fri 9999-12-31 23:59");
     assert_eq!(shown("UTC", u64::MAX), "Wed 584556019-04-03 14:25");
 }
+
+/// A bad calendar comes before a short run buffer, and that before an unknown id.
+#[test]
+fn refusals_about_the_run_buffer_come_behind_those_of_the_calendar() {
+    let mut store = pushed();
+    let before = store.clone();
+    let always = Calendar::always();
+    let mut number = |id: &[u8; 8], calendar: &[u8], bytes: usize| {
+        let answer = ffi::wake(&mut store, 1, id, 0, calendar, 0, &mut vec![0; bytes]);
+        assert_eq!((answer.run, answer.wake, answer.pieces), (0, 0, 0));
+        assert!(store == before, "a refusal changed the store");
+        answer.number
+    };
+    for id in [&ID.0, &[9; 8]] {
+        assert_eq!(number(id, &[], WAKE_RUN - 1), 26);
+        assert_eq!(number(id, always.as_bytes(), WAKE_RUN - 1), 2);
+    }
+    assert_eq!(number(&[9; 8], &[], WAKE_RUN), 26);
+    assert_eq!(number(&[9; 8], always.as_bytes(), WAKE_RUN), 8);
+}

@@ -1,5 +1,5 @@
 /* Calls every export of the library from C, on a message of one piece that goes from a tablet to the office; then inits of a message
- * that has arrived in part, and wakes within and outside of sending hours.
+ * that has arrived in part, wakes within and outside of sending hours, and wakes of a message of ten pieces.
  * Exits with 0 and a last line 'N passed, 0 failed' if every answer is the expected one. */
 #include <stdio.h>
 #include <string.h>
@@ -23,12 +23,16 @@ static void expect(const char *what, int right) {
     }
 }
 
-static int answers(socketlemon_answer a, uint64_t number, uint64_t run_len, uint64_t wake) {
-    if (a.number == number && a.run == run_len && a.wake == wake) return 1;
-    printf("answer %llu %llu %llu, expected %llu %llu %llu\n", (unsigned long long)a.number, (unsigned long long)a.run, (unsigned long long)a.wake,
-           (unsigned long long)number, (unsigned long long)run_len, (unsigned long long)wake);
+static int answers_pieces(socketlemon_answer a, uint64_t number, uint64_t run_len, uint64_t wake, uint64_t pieces) {
+    if (a.number == number && a.run == run_len && a.wake == wake && a.pieces == pieces) return 1;
+    printf("answer %llu %llu %llu %llu, expected %llu %llu %llu %llu\n", (unsigned long long)a.number, (unsigned long long)a.run,
+           (unsigned long long)a.wake, (unsigned long long)a.pieces, (unsigned long long)number, (unsigned long long)run_len, (unsigned long long)wake,
+           (unsigned long long)pieces);
     return 0;
 }
+
+/* The answer of a call that sends no piece. */
+static int answers(socketlemon_answer a, uint64_t number, uint64_t run_len, uint64_t wake) { return answers_pieces(a, number, run_len, wake, 0); }
 
 /* The run's first packet as a frame. */
 static void first_packet(const uint8_t *from_run) {
@@ -220,7 +224,8 @@ static void bad_calendars(void) {
     expect("dates that do", sends(closed_on(always, 2096, 2, 29), 0) && sends(closed_on(always, 2400, 2, 29), 0) && sends(closed_on(always, 9999, 12, 31), 0));
 
     static const uint8_t unknown[8] = {9};
-    expect("26 before 2 and 8", wakes_for_nothing(SOCKETLEMON_BAD_CALENDAR, 1, unknown, bad, 0, 0));
+    expect("26 before 2 and 8", wakes_for_nothing(SOCKETLEMON_BAD_CALENDAR, 1, unknown, bad, 0, 0) &&
+                                        wakes_for_nothing(SOCKETLEMON_BAD_CALENDAR, 1, unknown, bad, 0, SOCKETLEMON_WAKE_RUN - 1));
     expect("then 2, also outside hours", wakes_for_nothing(SOCKETLEMON_SHORT_OUTPUT, 1, unknown, open_from(0, 0), 0, SOCKETLEMON_WAKE_RUN - 1));
     expect("then 8, also outside hours", wakes_for_nothing(SOCKETLEMON_UNKNOWN_ID, 1, unknown, open_from(0, 0), 0, SOCKETLEMON_WAKE_RUN));
     expect("20 before 26", wakes_for_nothing(SOCKETLEMON_NO_WORK, 3, id, bad, 0, sizeof run) &&
@@ -230,6 +235,62 @@ static void bad_calendars(void) {
     tablet[0] ^= 1;
     expect("a deadline wake reads no calendar", wakes_for_nothing(SOCKETLEMON_UNKNOWN_ID, 2, unknown, bad, 0, SOCKETLEMON_WAKE_RUN) &&
                                                         answers(wake(2, 9000, bad, 0), 0, 46, 0) && answers(wake(2, 9000, open_from(0, 0), 0), 0, 0, 0));
+}
+
+/* A store for a message of ten pieces, and where its cells start. */
+enum { PIECES = 10, ENTRY = 34 + 36 + 1300, LARGE = SOCKETLEMON_STORE_BYTES(PIECES), CELLS_AT = SOCKETLEMON_STORE_BYTES(0), CELL = 1380 };
+static uint8_t large[LARGE], large_was[LARGE];
+
+/* Hands the tablet of that store an acknowledgement: of its init (0x81), or of a piece (0x11). */
+static int is_acknowledged(uint8_t flags, uint8_t index) {
+    memset(frame, 0, sizeof frame);
+    memcpy(frame, id, sizeof id);
+    frame[8] = flags, frame[19] = index;
+    return answers(socketlemon_packet(unused_recv, STORE, large, LARGE, frame, sizeof frame, here, there, rules, 1, 1, reply, sizeof reply), 0, 0, 1);
+}
+
+/* Whether a cell was stamped with this clock and is else as it was. */
+static int is_stamped(const uint8_t *cell, const uint8_t *was, uint64_t clock) {
+    uint64_t stamp = 0;
+    for (int i = 4; i < 12; i++) stamp = stamp * 256 + cell[i];
+    return stamp == clock && cell[12] == 1 && memcmp(cell, was, 4) == 0 && memcmp(cell + 13, was + 13, CELL - 13) == 0;
+}
+
+/* Whether a send wake sends the pieces whose indexes are these digits, in this order, and changes nothing but their stamps. */
+static int sends_pieces(uint64_t clock, const char *indexes) {
+    calendar always = open_from(0, 1440);
+    size_t count = strlen(indexes);
+    memcpy(large_was, large, LARGE);
+    int right = answers_pieces(socketlemon_wake(large, LARGE, 1, id, clock, always.bytes, always.len, 0, run, sizeof run), 0, count * ENTRY, 0, count);
+    for (size_t i = 0; i < count; i++) right = right && run[i * ENTRY + 34 + 8] == 0x10 && run[i * ENTRY + 34 + 19] == indexes[i] - '0';
+    for (size_t at = CELLS_AT; at < LARGE; at += CELL)
+        right = right && (strchr(indexes, '0' + large[at + 1]) ? is_stamped(large + at, large_was + at, clock) : memcmp(large + at, large_was + at, CELL) == 0);
+    return right && memcmp(large, large_was, CELLS_AT) == 0;
+}
+
+/* A message of ten pieces: at most eight leave with a wake, those never sent by index, then those that are due by stamp and index. */
+static void eight(void) {
+    static uint8_t message[PIECES * 1300];
+    for (size_t i = 0; i < sizeof message; i++) message[i] = (uint8_t)(i / 7);
+    expect("setup of a larger store", answers(socketlemon_setup(large, LARGE, SOCKETLEMON_SEND), 0, 0, 0));
+    expect("push of ten pieces", answers(socketlemon_push(large, LARGE, id, 0, there, here, (const uint8_t *)"ducts", 5, message, sizeof message, 0, 0, run,
+                                                          sizeof run), 0, 60, 0));
+    expect("its init is acknowledged", is_acknowledged(0x81, 0));
+    expect("the first eight", sends_pieces(1000, "01234567"));
+    expect("those never sent before those that are due", sends_pieces(1100, "89012345"));
+    expect("not due yet but for two", sends_pieces(1150, "67"));
+    expect("nothing twice at one clock", sends_pieces(1150, ""));
+    expect("equal stamps by index", sends_pieces(1200, "01234589"));
+    expect("the oldest stamp first", sends_pieces(1600, "67012345") && sends_pieces(1600, "89"));
+    expect("nothing by a clock that went back", sends_pieces(1599, "") && sends_pieces(0, ""));
+    expect("acknowledgements of two", is_acknowledged(0x11, 0) && is_acknowledged(0x11, 8));
+    expect("all others at the last clock", sends_pieces(UINT64_MAX, "12345679") && sends_pieces(UINT64_MAX, ""));
+    calendar always = open_from(0, 1440);
+    memcpy(large_was, large, LARGE);
+    expect("one byte too few for eight",
+           answers(socketlemon_wake(large, LARGE, 1, id, 1000, always.bytes, always.len, 0, run, 10959), SOCKETLEMON_SHORT_OUTPUT, 0, 0) &&
+                   answers(socketlemon_wake(large, LARGE, 1, id, 1000, always.bytes, always.len, 0, run, 10960), 0, 0, 0) &&
+                   memcmp(large, large_was, LARGE) == 0);
 }
 
 int main(void) {
@@ -252,7 +313,7 @@ int main(void) {
     expect("init", answers(to_office(), 0, 55, 0));
     first_packet(reply);
     expect("ack of the init", answers(to_tablet(), 0, 0, 1));
-    expect("send wake", answers(wake(1, 1000, open_from(0, 1440), 0), 0, 34 + 36 + 300, 0));
+    expect("send wake", answers_pieces(wake(1, 1000, open_from(0, 1440), 0), 0, 34 + 36 + 300, 0, 1));
     first_packet(run);
     expect("chunk", answers(to_office(), 0, 70, 0));
     expect("report", answers(socketlemon_report(tablet, STORE, id, report, sizeof report), 0, 0, 0));
@@ -279,6 +340,7 @@ int main(void) {
                                                   run, sizeof run), 0, 60, 0));
     hours();
     bad_calendars();
+    eight();
     printf("%d passed, %d failed\n", passed, failed);
     return failed != 0;
 }

@@ -1,17 +1,18 @@
 /* Feeds random and mutated bytes, lengths, stores and numbers to every export, and checks of each answer: the number is one
  * of docs/PROTOCOL.md's, the run fits its buffer, bytes past what was written stay, and a refusal changed nothing. Of an init that
- * was accepted: an equal one has changed nothing either, and any other has left a fresh record. Of a wake: what its calendar says
- * by the model here, which shares nothing with the library.
+ * was accepted: an equal one has changed nothing either, and any other has left a fresh record. Of a wake: what its calendar says,
+ * and which pieces it sends, counts and stamps, by the models here, which share nothing with the library.
  * Use: fuzz [SEED [ROUNDS [all]]]; under valgrind it also shows that nothing outside the buffers is touched, for each lies in an
  * allocation of its own. Exits with 0 if every answer was right and, with `all`, every refusal was met, both kinds of inits of a
- * message with pieces, every way to spoil a calendar, and wakes that would have sent something, within hours and outside. */
+ * message with pieces, every way to spoil a calendar, wakes that would have sent something, within hours and outside, and wakes
+ * with more to send than they may. */
 #include <stdio.h>
 #include <stdlib.h>
 #include <string.h>
 
 #include "socketlemon.h"
 
-enum { RECORD = 328 };
+enum { RECORD = 328, RECORDS_AT = 16, CELLS_AT = RECORDS_AT + 8 * RECORD, CELL = 1380 };
 
 typedef struct {
     uint8_t *at, *was;
@@ -76,10 +77,21 @@ static size_t around(size_t fits, size_t most) {
     }
 }
 
+/* Whether a packet's flags say a piece: a chunk that is no acknowledgement. */
+static int is_piece(uint8_t flags) { return (flags & 0x91) == 0x10; }
+
+/* How many packets of a run are pieces. */
+static uint64_t pieces_in(const uint8_t *run, size_t len) {
+    uint64_t pieces = 0;
+    for (size_t at = 0; at + 34 <= len; at += 34 + run[at] * 256u + run[at + 1]) pieces += is_piece(run[at + 34 + 8]);
+    return pieces;
+}
+
 static void answer(const char *what, socketlemon_answer a, buffer run, size_t changed_stores, buffer *stores) {
     int right = known(a.number) && a.wake <= 1 && a.run <= run.len && same_from(run, (size_t)a.run);
+    right = right && a.pieces == pieces_in(run.at, (size_t)a.run) && a.pieces <= SOCKETLEMON_WAKE_PIECES;
     if (a.number != 0) {
-        right = right && a.run == 0 && a.wake == 0 && same_from(run, 0);
+        right = right && a.run == 0 && a.wake == 0 && a.pieces == 0 && same_from(run, 0);
         for (size_t i = 0; i < changed_stores; i++) right = right && same_from(stores[i], 0);
     }
     expect(what, right);
@@ -103,7 +115,7 @@ static arrival last; /* the last init that was accepted */
 
 /* The arriving record of a frame's id. */
 static const uint8_t *arriving(const uint8_t *store, const uint8_t *frame) {
-    for (const uint8_t *record = store + 16; record < store + 16 + 8 * RECORD; record += RECORD)
+    for (const uint8_t *record = store + RECORDS_AT; record < store + CELLS_AT; record += RECORD)
         if (record[1] == 1 && memcmp(record + 8, frame, 8) == 0) return record;
     return NULL;
 }
@@ -135,6 +147,7 @@ static void packet_between(buffer *stores, buffer frame, const uint8_t *from, co
     keep(run), keep(stores[0]), keep(stores[1]);
     socketlemon_answer a = socketlemon_packet(stores[0].at, stores[0].len, stores[1].at, stores[1].len, frame.at, frame.len, from, to, rules.at, rules.len, below(2), run.at, run.len);
     answer("packet", a, run, 2, stores);
+    expect("a packet sends no piece", a.pieces == 0);
     if (a.number == 0 && (frame.at[8] & 0x81) == 0x80) {
         last.there = 1;
         memcpy(last.frame, frame.at, SOCKETLEMON_FRAME), memcpy(last.from, from, 16), memcpy(last.to, to, 16);
@@ -348,7 +361,66 @@ static buffer pick_hours(uint64_t *unix_ms) {
     return c;
 }
 
-static int same_answer(socketlemon_answer a, socketlemon_answer b) { return a.number == b.number && a.run == b.run && a.wake == b.wake; }
+static int same_answer(socketlemon_answer a, socketlemon_answer b) {
+    return a.number == b.number && a.run == b.run && a.wake == b.wake && a.pieces == b.pieces;
+}
+
+/* The pieces that want sending, of which the first eight are sent, in the words of document 02. */
+typedef struct {
+    uint64_t stamp;
+    int sent; /* 0 for a piece that was never sent */
+    uint8_t index;
+    size_t at; /* where its cell stands */
+} piece;
+
+/* Wakes that had more to send than eight, and of those that sent any: with pieces of both kinds, with stamps that differ. */
+static unsigned long full_wakes, mixed_wakes, aged_wakes;
+
+static uint64_t number_at(const uint8_t *at) {
+    uint64_t n = 0;
+    for (int i = 0; i < 8; i++) n = n * 256 + at[i];
+    return n;
+}
+
+static int goes_before(piece a, piece b) {
+    if (a.sent != b.sent) return b.sent;
+    return a.stamp != b.stamp ? a.stamp < b.stamp : a.index < b.index;
+}
+
+/* The pieces of the leaving message with this id that want sending at a clock, in the order of sending. */
+static size_t wanting(const uint8_t *store, uint64_t clock, piece *list) {
+    size_t count = 0;
+    for (const uint8_t *record = store + RECORDS_AT; record < store + CELLS_AT; record += RECORD) {
+        if (record[1] != 3 || memcmp(record + 8, id, 8) != 0 || record[3] != 1) continue;
+        for (size_t link = record[5]; link; link = store[CELLS_AT + (link - 1) * CELL]) {
+            size_t at = CELLS_AT + (link - 1) * CELL;
+            piece p = {number_at(store + at + 4), store[at + 12], store[at + 1], at};
+            if (p.sent == 2 || (p.sent == 1 && (clock < p.stamp || clock - p.stamp < 100))) continue;
+            size_t place = count++;
+            for (; place > 0 && goes_before(p, list[place - 1]); place--) list[place] = list[place - 1];
+            list[place] = p;
+        }
+    }
+    return count;
+}
+
+/* What a send wake that was answered 0 has sent and stamped: the first eight, or all if fewer. */
+static void sent_first(buffer send, uint64_t clock, socketlemon_answer a, const uint8_t *run) {
+    piece list[45];
+    size_t wants = wanting(send.was, clock, list), sends = wants < SOCKETLEMON_WAKE_PIECES ? wants : SOCKETLEMON_WAKE_PIECES, at = 0;
+    int right = a.pieces == sends && (sends == 0 || memcmp(send.at, send.was, CELLS_AT) == 0);
+    for (size_t i = 0; right && i < sends; i++) {
+        uint8_t *cell = send.at + list[i].at, *was = send.was + list[i].at;
+        right = is_piece(run[at + 34 + 8]) && number_at(run + at + 34 + 12) == list[i].index && number_at(cell + 4) == clock && cell[12] == 1;
+        at += 34 + run[at] * 256u + run[at + 1];
+        memcpy(was + 4, cell + 4, 9);
+    }
+    /* but for those stamps nothing has changed */
+    expect("the pieces of a wake", right && at == (sends ? a.run : 0) && same_from(send, 0));
+    full_wakes += wants > sends;
+    mixed_wakes += sends && !list[0].sent && list[sends - 1].sent;
+    aged_wakes += sends && list[sends - 1].sent && list[sends - 1].stamp != list[0].stamp && list[0].sent;
+}
 
 /* A wake by a calendar, beside the same wake by one that is always open. A deadline wake does the same. A send wake does so within
  * hours; outside it gives the same refusal or does nothing; and a calendar that is none is 26, behind 25 and 20. */
@@ -366,13 +438,15 @@ static socketlemon_answer wake(buffer send, uint64_t kind, uint64_t clock, buffe
     if (kind == SEND && !formed && b.number != SOCKETLEMON_UNSOUND_STORE) {
         expect("a wake with a bad calendar", a.number == SOCKETLEMON_BAD_CALENDAR);
     } else if (kind == SEND && formed && !is_open(c, unix_ms)) {
-        expect("a wake outside hours", a.number == b.number && a.run == 0 && a.wake == 0 && same_from(send, 0) && same_from(run, 0));
+        expect("a wake outside hours", a.number == b.number && a.run == 0 && a.wake == 0 && a.pieces == 0 && same_from(send, 0) && same_from(run, 0));
         shut_wakes += b.run > 0;
     } else {
         int same = memcmp(send.at, twin.at, send.len) == 0 && (run.len == 0 || memcmp(run.at, twin_run.at, run.len) == 0);
         expect("a wake within hours, or of another kind", same_answer(a, b) && same);
         open_wakes += kind == SEND && b.run > 0 && memcmp(c.at, always, DATES_AT) != 0;
+        if (kind == SEND && a.number == 0) sent_first(send, clock, a, run.at);
     }
+    expect("only a send wake sends pieces", kind == SEND || a.pieces == 0);
     drop(c), drop(twin), drop(twin_run);
     return a;
 }
@@ -380,7 +454,7 @@ static socketlemon_answer wake(buffer send, uint64_t kind, uint64_t clock, buffe
 /* A message that was pushed goes on its way, more or less. */
 static void carry(buffer *stores, const uint8_t *run, size_t len) {
     loop_back(stores, run, len);
-    for (uint64_t clock = 1000; clock < 2000 && below(8); clock += 100) {
+    for (uint64_t clock = 1000; clock < 2000 && below(8); clock += below(3) ? 100 : below(120)) {
         buffer out = make(SOCKETLEMON_WAKE_RUN);
         socketlemon_answer a = wake(stores[1], SEND, clock, out);
         if (a.number == 0) loop_back(stores, out.at, (size_t)a.run);
@@ -405,12 +479,13 @@ static void one_call(buffer *stores) {
         keep(run), keep(send);
         socketlemon_answer a = socketlemon_push(send.at, send.len, id, below(3), there, here, topic.at, topic.len, data.at, data.len, next() >> below(64), next() >> below(64), run.at, run.len);
         answer("push", a, run, 1, &send);
+        expect("a push sends no piece", a.pieces == 0);
         if (a.number == 0) carry(stores, run.at, (size_t)a.run);
         drop(topic);
         break;
     }
     case 1: {
-        run = make(around(SOCKETLEMON_WAKE_RUN, 40000));
+        run = make(around(SOCKETLEMON_WAKE_RUN, 20000));
         socketlemon_answer a = wake(send, below(9) ? SEND : below(4), next() >> below(64), run);
         if (a.number == 0) loop_back(stores, run.at, (size_t)a.run);
         break;
@@ -419,7 +494,7 @@ static void one_call(buffer *stores) {
         run = make(around(SOCKETLEMON_REPORT, 60));
         keep(run), keep(send);
         socketlemon_answer a = socketlemon_report(send.at, send.len, id, run.at, run.len);
-        expect("report", known(a.number) && a.run == 0 && a.wake == 0 && same_from(send, 0) && same_from(run, a.number ? 0 : SOCKETLEMON_REPORT));
+        expect("report", known(a.number) && a.run == 0 && a.wake == 0 && a.pieces == 0 && same_from(send, 0) && same_from(run, a.number ? 0 : SOCKETLEMON_REPORT));
         break;
     }
     case 3: {
@@ -427,6 +502,7 @@ static void one_call(buffer *stores) {
         keep(run), keep(stores[0]), keep(data);
         socketlemon_answer a = socketlemon_take(stores[0].at, stores[0].len, data.at, data.len, run.at, run.len);
         answer("take", a, run, 1, stores);
+        expect("a take sends no piece", a.pieces == 0);
         expect("take's data", same_from(data, a.number ? 0 : taken_size(data)));
         break;
     }
@@ -435,7 +511,8 @@ static void one_call(buffer *stores) {
         run = make(around(SOCKETLEMON_ADDRESS, 20));
         keep(run);
         socketlemon_answer a = socketlemon_address(key.at, key.len, run.at, run.len);
-        expect("address", known(a.number) && a.number <= SOCKETLEMON_SHORT_OUTPUT && a.run == 0 && a.wake == 0 && same_from(run, a.number ? 0 : SOCKETLEMON_ADDRESS));
+        expect("address", known(a.number) && a.number <= SOCKETLEMON_SHORT_OUTPUT && a.run == 0 && a.wake == 0 && a.pieces == 0 &&
+                                  same_from(run, a.number ? 0 : SOCKETLEMON_ADDRESS));
         drop(key);
         break;
     }
@@ -454,7 +531,7 @@ static void sequence(void) {
         uint64_t role = below(10) ? 1 + (uint64_t)i : 3;
         keep(stores[i]);
         socketlemon_answer a = socketlemon_setup(stores[i].at, stores[i].len - less, role);
-        expect("setup", known(a.number) && a.run == 0 && a.wake == 0 && (less || role == 3 ? a.number == SOCKETLEMON_UNSOUND_STORE && same_from(stores[i], 0) : a.number == 0));
+        expect("setup", known(a.number) && a.run == 0 && a.wake == 0 && a.pieces == 0 && (less || role == 3 ? a.number == SOCKETLEMON_UNSOUND_STORE && same_from(stores[i], 0) : a.number == 0));
         if (a.number != 0) socketlemon_setup(stores[i].at, stores[i].len, 1 + (uint64_t)i);
     }
     last.there = 0;
@@ -478,5 +555,7 @@ int main(int argc, char **argv) {
     printf("%lu answers right, %lu wrong; %d of %d refusals met; inits of messages with pieces: %lu equal, %lu others\n", passed, failed, refusals,
            SOCKETLEMON_REFUSALS, equal_inits, other_inits);
     printf("wakes with something to send: %lu outside hours, %lu within a window; calendars spoiled in %lu of %d ways\n", shut_wakes, open_wakes, ways, WAYS);
-    return failed != 0 || refusals < wanted || (wanted && !(equal_inits && other_inits && shut_wakes && open_wakes && ways == WAYS));
+    printf("wakes with more to send than eight: %lu; that sent new and due pieces: %lu; due ones of several stamps: %lu\n", full_wakes, mixed_wakes, aged_wakes);
+    int wakes = shut_wakes && open_wakes && full_wakes && mixed_wakes && aged_wakes;
+    return failed != 0 || refusals < wanted || (wanted && !(equal_inits && other_inits && wakes && ways == WAYS));
 }

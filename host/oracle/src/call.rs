@@ -2,6 +2,8 @@
 
 use std::collections::BTreeSet;
 
+use crate::frame::{self, Kind};
+
 /// A message's id.
 pub type Id = [u8; 8];
 
@@ -13,6 +15,9 @@ pub const FRAME: usize = 1400;
 
 /// The most cells of a store.
 pub const MOST_CELLS: usize = 45;
+
+/// The most pieces that a wake of the library sends.
+pub const WAKE_PIECES: usize = 8;
 
 /// The flag that marks an acknowledgement, in a packet's byte 8.
 pub const ACK: u8 = 0x01;
@@ -34,6 +39,11 @@ impl Packet {
     /// The flags in its header.
     pub fn flags(&self) -> u8 {
         self.bytes[8]
+    }
+
+    /// Whether it brings a piece of a message.
+    pub fn is_piece(&self) -> bool {
+        self.flags() & ACK == 0 && frame::kind(self.flags()) == Kind::Chunk
     }
 }
 
@@ -165,6 +175,8 @@ pub struct Said {
 pub struct Got {
     pub number: u64,
     pub wake: u64,
+    /// How many pieces it says that it sends.
+    pub pieces: u64,
     pub packets: Vec<Packet>,
     pub report: Option<Report>,
     pub taken: Option<Taken>,

@@ -9,7 +9,8 @@ pub const USAGE: &str = "usage:
   oracle [--seeds N] [--first SEED] [--steps N] [--fault NAME]
       compares with the original, N sequences of N steps each; a fault must be found:
       reply, report, take, wake, deadline, mark, refused, number, leave, stay, leave-init, leave-early,
-      stay-init, restart, skip, shut, stamp, open or calendar
+      stay-init, restart, skip, shut, stamp, open, calendar, nine, unsent, wanting, due-first, falling,
+      counted, stay-full or leave-full
   oracle replay FILE...
       replays lists of what the original put out
   oracle record FOLDER

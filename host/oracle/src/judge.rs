@@ -2,8 +2,17 @@
 
 use crate::call::{Got, Packet, Said, Taken, Woke};
 
+/// Says whether the library's count of the pieces that it sends is wrong, which the original does not have.
+pub fn judge_count(got: &Got) -> Result<(), String> {
+    match got.packets.iter().filter(|packet| packet.is_piece()).count() as u64 {
+        pieces if pieces == got.pieces => Ok(()),
+        pieces => Err(format!("the library counts {} pieces and puts out {pieces}", got.pieces)),
+    }
+}
+
 /// Says how the two differ, if they do.
 pub fn judge(got: &Got, said: &Said) -> Result<(), String> {
+    judge_count(got)?;
     if got.number != said.number {
         return Err(format!("the library answers {}, the original {}", got.number, said.number));
     }

@@ -10,6 +10,17 @@ struct Answer {
     number: u64,
     run: u64,
     wake: u64,
+    pieces: u64,
+}
+
+impl Answer {
+    /// Whether the call was done, where it has nothing to send; else what it answers.
+    fn done(&self) -> Result<(), String> {
+        match (self.number, self.run, self.wake, self.pieces) {
+            (0, 0, 0, 0) => Ok(()),
+            told => Err(format!("answered {told:?}")),
+        }
+    }
 }
 
 #[rustfmt::skip]
@@ -30,20 +41,16 @@ const RECORDS: usize = 8;
 const HEAD_BYTES: usize = 16;
 const RECORD_BYTES: usize = 328;
 const CELL_BYTES: usize = 1380;
-const RUN_BYTES: usize = 34_250;
+const RUN_BYTES: usize = 10_960;
 const DATA_BYTES: usize = RECORD_BYTES + 32_500;
 const REPORT_BYTES: usize = 44;
 const ARRIVING: u8 = 1;
 
 /// The address that the library makes of a key.
-pub fn address(key: &[u8; 32]) -> Result<Address, u64> {
+pub fn address(key: &[u8; 32]) -> Result<Address, String> {
     let mut out = [0; 16];
     let answer = unsafe { socketlemon_address(key.as_ptr(), key.len(), out.as_mut_ptr(), out.len()) };
-    if answer.number == 0 {
-        Ok(out)
-    } else {
-        Err(answer.number)
-    }
+    answer.done().map(|()| out)
 }
 
 /// A node: both stores, and what a host keeps beside them.
@@ -58,15 +65,11 @@ pub struct Node {
 
 impl Node {
     /// A node with fresh stores, that accepts every topic and knows no key.
-    pub fn new(setup: &Setup) -> Result<Self, u64> {
+    pub fn new(setup: &Setup) -> Result<Self, String> {
         let store = |cells: usize, role| {
             let mut bytes = vec![0xee; HEAD_BYTES + RECORDS * RECORD_BYTES + CELL_BYTES * cells];
             let answer = unsafe { socketlemon_setup(bytes.as_mut_ptr(), bytes.len(), role) };
-            if answer.number == 0 {
-                Ok(bytes)
-            } else {
-                Err(answer.number)
-            }
+            answer.done().map(|()| bytes)
         };
         let (recv, send) = (store(setup.recv_cells, 1)?, store(setup.send_cells, 2)?);
         Ok(Self { address: address(&setup.key)?, recv, send, rules: vec![0], known: BTreeSet::new() })
@@ -233,7 +236,8 @@ fn got(answer: Answer, run: &[u8]) -> Got {
         });
         rest = after;
     }
-    Got { number: answer.number, wake: answer.wake, packets, ..Got::default() }
+    let Answer { number, wake, pieces, .. } = answer;
+    Got { number, wake, pieces, packets, ..Got::default() }
 }
 
 fn array<const N: usize>(bytes: &[u8]) -> [u8; N] {

@@ -6,7 +6,7 @@ use crate::list::List;
 
 /// How many calls of the list agree: all, or else what differs at which call.
 pub fn replay(list: &List) -> Result<usize, String> {
-    let mut node = Node::new(&list.setup).map_err(|number| format!("setup is refused with {number}"))?;
+    let mut node = Node::new(&list.setup).map_err(|told| format!("setup is {told}"))?;
     if node.address() != list.address {
         return Err(format!(
             "the library's address of the key is {:?}, the original's {:?}",

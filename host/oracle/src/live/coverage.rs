@@ -5,7 +5,7 @@ use std::collections::{BTreeMap, BTreeSet};
 use crate::call::{Call, Packet, Said, Wake, Woke, CLOSED_TOPIC, TOPIC_TOO_LARGE};
 use crate::frame::{self, Kind};
 use crate::live::left::Listed;
-use crate::live::run::{BY_HOURS, KEPT_BACK, MALFORMED, OUTSIDE};
+use crate::live::run::{AGED, BY_HOURS, EIGHT, FULL, KEPT_BACK, MALFORMED, MIXED, OUTSIDE, STAYS};
 use crate::live::tally::{Label, Tally};
 
 #[derive(Default)]
@@ -31,7 +31,7 @@ pub struct Coverage {
 pub const BOUNDARY_LENGTHS: [usize; 11] = [0, 1, 249, 250, 251, 1299, 1300, 1301, 1550, 32_499, 32_500];
 
 /// What a full run must have met at least once.
-const NEEDED: [&str; 27] = [
+const NEEDED: [&str; 32] = [
     "push",
     "push, topic too large",
     "reply pushed",
@@ -59,6 +59,11 @@ const NEEDED: [&str; 27] = [
     OUTSIDE,
     KEPT_BACK,
     MALFORMED,
+    STAYS,
+    EIGHT,
+    FULL,
+    MIXED,
+    AGED,
 ];
 
 const EQUAL_INIT: &str = "init again, before any piece";

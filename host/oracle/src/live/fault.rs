@@ -6,6 +6,7 @@ use crate::frame;
 use crate::library::Node;
 use crate::live::hours::{says, Says};
 use crate::live::left::{acknowledged, Again, Listed, Short};
+use crate::live::sender::Wanting;
 use crate::live::tally::Tally;
 
 const PAST_END: u64 = 9;
@@ -52,10 +53,26 @@ pub enum Fault {
     Open,
     /// The library is always open where its calendar is malformed.
     Calendar,
+    /// The library sends a ninth piece.
+    Nine,
+    /// The library stamps pieces that it does not send.
+    Unsent,
+    /// The library counts the pieces that want sending.
+    Wanting,
+    /// Of an id that has left, the library sends due pieces before new ones.
+    DueFirst,
+    /// Of an id that has left, the library sends due pieces of one stamp by falling index.
+    Falling,
+    /// The library counts a piece where it acknowledges one.
+    Counted,
+    /// No id left out at a wake with more than eight pieces to send.
+    StayFull,
+    /// An id left out at every wake with pieces to send.
+    LeaveFull,
 }
 
 /// Each fault by the name that the command line knows.
-pub const FAULTS: [(&str, Fault); 19] = [
+pub const FAULTS: [(&str, Fault); 27] = [
     ("reply", Fault::Reply),
     ("report", Fault::Report),
     ("take", Fault::Take),
@@ -75,6 +92,14 @@ pub const FAULTS: [(&str, Fault); 19] = [
     ("stamp", Fault::Stamp),
     ("open", Fault::Open),
     ("calendar", Fault::Calendar),
+    ("nine", Fault::Nine),
+    ("unsent", Fault::Unsent),
+    ("wanting", Fault::Wanting),
+    ("due-first", Fault::DueFirst),
+    ("falling", Fault::Falling),
+    ("counted", Fault::Counted),
+    ("stay-full", Fault::StayFull),
+    ("leave-full", Fault::LeaveFull),
 ];
 
 impl Fault {
@@ -142,8 +167,42 @@ impl Fault {
             (Self::Skip, Call::Packet(packet)) if is_late_init(packet, tally, false) => {
                 node.clone().call(call)
             }
+            (Self::Counted, Call::Packet(_)) => {
+                let got = node.call(call);
+                Got { pieces: got.packets.len() as u64, ..got }
+            }
             _ => node.call(call),
         }
+    }
+
+    /// Spoils whether an id leaves with a send wake at which so many pieces want sending.
+    pub fn mislead_wake(self, wanting: &Wanting) -> bool {
+        match self {
+            Self::StayFull => false,
+            Self::LeaveFull => wanting.count() > 0,
+            _ => wanting.is_too_many(),
+        }
+    }
+
+    /// Wakes the library's sender of a message, whose id may have left, or does what the fault makes of it.
+    pub fn wake(self, wanting: &Wanting, is_left: bool, mut wake: impl FnMut() -> Got) -> Got {
+        let mut got = wake();
+        let sent = got.packets.len();
+        match self {
+            // what the first wake has left over goes with the second
+            Self::Nine if wanting.is_too_many() => {
+                got.packets.extend(wake().packets.into_iter().take(1));
+                got.pieces += 1;
+            }
+            Self::Unsent if wanting.is_too_many() => drop(wake()),
+            Self::Wanting => got.pieces = wanting.count() as u64,
+            Self::DueFirst if is_left && wanting.new < sent => got.packets.rotate_left(wanting.new),
+            Self::Falling if is_left && wanting.count() > 0 && wanting.new == 0 && wanting.one_stamp => {
+                got.packets.reverse();
+            }
+            _ => {}
+        }
+        got
     }
 }
 

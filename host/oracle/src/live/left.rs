@@ -1,7 +1,7 @@
 //! The ids that have left the comparison.
 //!
-//! Where the library differs from the original on purpose, the two hold different things from that packet on.
-//! Its id then leaves the comparison for good, in both stores.
+//! Where the library differs from the original on purpose, the two hold different things from that packet or wake
+//! on. Its id then leaves the comparison for good, in both stores.
 
 use std::collections::BTreeMap;
 
@@ -20,17 +20,20 @@ pub enum Listed {
     /// An init that is equal to the one that opened its message changes nothing; in the original the message
     /// loses its pieces.
     EqualInit,
+    /// A wake with more than eight pieces to send sends the first eight; the original sends all.
+    FullWake,
 }
 
 impl Listed {
     /// All of them.
-    pub const ALL: [Self; 2] = [Self::ShortLastPiece, Self::EqualInit];
+    pub const ALL: [Self; 3] = [Self::ShortLastPiece, Self::EqualInit, Self::FullWake];
 
     /// Its name in what is printed.
     pub fn name(self) -> &'static str {
         match self {
             Self::ShortLastPiece => "C-11, a short last piece",
             Self::EqualInit => "C-12, an equal init",
+            Self::FullWake => "C-15, a wake with more than eight pieces to send",
         }
     }
 
@@ -40,6 +43,7 @@ impl Listed {
         match self {
             Self::ShortLastPiece => 5,
             Self::EqualInit => 3,
+            Self::FullWake => 20,
         }
     }
 
@@ -53,6 +57,8 @@ impl Listed {
         match self {
             Self::ShortLastPiece => Short::of(packet, tally).is_some_and(|short| short.ends),
             Self::EqualInit => Again::of(packet, tally).is_some_and(|init| init.is_equal() && init.is_late()),
+            // it is a wake that is treated otherwise, and no packet
+            Self::FullWake => false,
         }
     }
 
@@ -60,7 +66,7 @@ impl Listed {
     /// The tally knows no rule book.
     pub fn is_refused(self, said: &Said) -> bool {
         match self {
-            Self::ShortLastPiece => false,
+            Self::ShortLastPiece | Self::FullWake => false,
             Self::EqualInit => said.number == CLOSED_TOPIC,
         }
     }
@@ -71,6 +77,7 @@ impl Listed {
             Self::ShortLastPiece | Self::EqualInit => {
                 Said { packets: vec![acknowledged(packet)], woke: Some(Woke::No), ..Said::default() }
             }
+            Self::FullWake => Said::default(),
         }
     }
 
@@ -84,6 +91,7 @@ impl Listed {
         match self {
             Self::ShortLastPiece => said.number == SHORT_PIECE && said.packets.is_empty(),
             Self::EqualInit => said.number == 0 && said.packets == [acknowledged(packet)],
+            Self::FullWake => false,
         }
     }
 

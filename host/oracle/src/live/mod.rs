@@ -11,6 +11,7 @@ mod rng;
 mod rules;
 mod run;
 pub mod samples;
+mod sender;
 mod stack;
 mod tally;
 mod words;

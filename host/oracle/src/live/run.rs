@@ -4,7 +4,7 @@ use std::collections::BTreeSet;
 
 use crate::call::{Call, Got, Id, Packet, Said, Setup, Wake, Woke, ACK};
 use crate::frame::{self, Kind};
-use crate::judge::judge;
+use crate::judge::{judge, judge_count};
 use crate::library::Node;
 use crate::list::{Entry, List};
 use crate::live::clock;
@@ -17,9 +17,11 @@ use crate::live::stack::{self, Original};
 use crate::live::tally::{Due, Tally};
 use crate::live::words;
 
+mod eight;
 mod in_vain;
 mod unjudged;
 
+pub use eight::{AGED, EIGHT, FULL, MIXED, STAYS};
 pub use in_vain::{BY_HOURS, KEPT_BACK, MALFORMED, OUTSIDE};
 
 /// What is done to both sides.
@@ -76,7 +78,7 @@ impl<'a> Run<'a> {
             calls: Box::new(List { setup: setup.clone(), address: theirs, entries: Vec::new(), end: None }),
             left: Vec::new(),
         };
-        let node = Node::new(&setup).map_err(|number| failed(format!("setup is refused with {number}")))?;
+        let node = Node::new(&setup).map_err(|told| failed(format!("setup is {told}")))?;
         if node.address() != theirs {
             return Err(failed(format!(
                 "the library's address of the key is {:?}, the original's {theirs:?}",
@@ -142,7 +144,7 @@ impl<'a> Run<'a> {
             return self.call_of_left(call);
         }
         if call == Call::Take {
-            self.throw_away_left();
+            self.throw_away_left()?;
         }
         let listed = self.listed(&call);
         let before = listed.map(|_| self.node.clone());
@@ -179,8 +181,11 @@ impl<'a> Run<'a> {
 
     /// A refusal that the original does not have must have a reason, and is not compared.
     fn added_refusal(&mut self, call: Call, got: &Got) -> Result<Vec<Packet>, Difference> {
-        if !self.tally.has_reason(&call, got.number) {
-            let why = format!("the library answers {} without reason", got.number);
+        let reason = match self.tally.has_reason(&call, got.number) {
+            true => judge_count(got),
+            false => Err(format!("the library answers {} without reason", got.number)),
+        };
+        if let Err(why) = reason {
             return Err(self.differ(call, Said::default(), why));
         }
         self.coverage.outside(format!("answered {}", got.number));
@@ -213,9 +218,12 @@ impl<'a> Run<'a> {
         match call {
             Call::Push(push) if said.number == 0 => {
                 self.meet(push.id);
-                self.tally.pushed(push, self.clock);
+                self.tally.pushed(push, self.node.address(), self.clock);
             }
             Call::Packet(packet) => {
+                if said.number == 0 {
+                    self.tally.accepted(packet);
+                }
                 if self.left.has(&packet.id()) {
                     self.tally.handled_here(packet, said);
                 } else {
@@ -278,7 +286,7 @@ impl<'a> Run<'a> {
     fn wake_all(&mut self, woken: &[Packet]) -> Result<(), Difference> {
         for id in self.senders(woken)? {
             if self.left.has(&id) {
-                self.wake_unjudged(Wake::Send, id);
+                self.wake_unjudged(Wake::Send, id)?;
             } else {
                 self.wake(Wake::Send, id, of(woken, &id))?;
             }
@@ -305,7 +313,7 @@ impl<'a> Run<'a> {
         for id in self.senders(&sent)? {
             let due = self.tally.due(&id, to);
             if self.left.has(&id) {
-                self.timers_of_left(id, due);
+                self.timers_of_left(id, due)?;
             } else {
                 self.timers(id, due, of(&sent, &id))?;
             }
@@ -352,15 +360,20 @@ impl<'a> Run<'a> {
     fn wake(&mut self, kind: Wake, id: Id, packets: Vec<Packet>) -> Result<(), Difference> {
         let (hours, was_shut) = self.draw_hours(kind, id)?;
         let call = Call::Wake(kind, id, self.clock);
-        let got = self.node.wake(kind, &id, self.clock, &hours);
+        let leaves = kind == Wake::Send && self.leaves_at_wake(&id);
+        let got = self.ask_to_wake(kind, &id, &hours);
         if was_shut && !got.packets.is_empty() {
             self.coverage.saw(KEPT_BACK);
+        }
+        if leaves {
+            return self.leave_at_wake(id, &got, packets);
         }
         let mut said = Said { packets, ..Said::default() };
         if let Some(fault) = self.fault {
             fault.spoil(&call, &mut said);
         }
-        self.keep(call, &got, said)
+        self.keep(call.clone(), &got, said)?;
+        self.judge_wake(&call, &got)
     }
 
     /// Compares the reports on a message, unless its id has left, without a place in the list if they agree.

@@ -6,6 +6,7 @@ use std::collections::BTreeMap;
 
 use crate::call::{Address, Call, Id, Packet, Push, Said, Setup, Taken, ACK, UNKNOWN_ID};
 use crate::frame::{self, Kind};
+use crate::live::sender::Sender;
 
 const RECORDS: usize = 8;
 /// The longest message in the domain of the comparison.
@@ -97,6 +98,8 @@ pub struct Tally {
     recv_cells: usize,
     send_cells: usize,
     pub leaving: BTreeMap<Id, Leaving>,
+    /// What wakes put out for each message that was pushed last under its id.
+    pub senders: BTreeMap<Id, Sender>,
     pub arriving: BTreeMap<Id, Arriving>,
     /// The cells of each whole message.
     pub whole: BTreeMap<Id, usize>,
@@ -108,6 +111,7 @@ impl Tally {
             recv_cells: setup.recv_cells,
             send_cells: setup.send_cells,
             leaving: BTreeMap::new(),
+            senders: BTreeMap::new(),
             arriving: BTreeMap::new(),
             whole: BTreeMap::new(),
         }
@@ -167,8 +171,8 @@ impl Tally {
         said.unwrap_or(if found { 0 } else { UNKNOWN_ID })
     }
 
-    /// A push that the original took, at this time.
-    pub fn pushed(&mut self, push: &Push, clock: u64) {
+    /// A push that the original took, at this time, by a node with this address.
+    pub fn pushed(&mut self, push: &Push, from: Address, clock: u64) {
         let new = Leaving {
             cells: cells(push),
             length: push.data.len(),
@@ -177,6 +181,14 @@ impl Tally {
             deadlines: 0,
         };
         self.leaving.insert(push.id, new);
+        self.senders.insert(push.id, Sender::new(push, from));
+    }
+
+    /// A packet that was accepted: the sender of its id hears of it.
+    pub fn accepted(&mut self, packet: &Packet) {
+        if let Some(sender) = self.senders.get_mut(&packet.id()) {
+            sender.acknowledged(packet);
+        }
     }
 
     /// The message that arrives under the id of an init, if the packet is one.
@@ -287,7 +299,7 @@ mod tests {
     #[test]
     fn a_refused_push_needs_its_reason() {
         let mut tally = tally();
-        tally.pushed(&push(1, 1301), 0);
+        tally.pushed(&push(1, 1301), [0; 16], 0);
         let has = |push: Push, number| tally.has_reason(&Call::Push(push), number);
         assert!(has(push(1, 0), 22) && !has(push(2, 0), 22));
         assert!(has(push(2, 1301), 12) && !has(push(2, 1300), 12));
@@ -295,7 +307,7 @@ mod tests {
         assert!(has(Push { created: u64::MAX, ..push(2, 0) }, 24) && !has(push(2, 0), 24));
         assert!(!has(push(2, 0), 7) && !has(push(2, 0), 25) && !has(push(2, 0), 2));
         for id in 2..=8 {
-            tally.pushed(&push(id, 0), 0);
+            tally.pushed(&push(id, 0), [0; 16], 0);
         }
         assert!(tally.has_reason(&Call::Push(push(9, 0)), 7));
         let wake = Call::Wake(Wake::Send, [1; 8], 0);
@@ -369,7 +381,7 @@ mod tests {
     #[test]
     fn timers_go_by_hundred_and_three_hundred_thousand() {
         let mut tally = tally();
-        tally.pushed(&push(1, 0), 50);
+        tally.pushed(&push(1, 0), [0; 16], 50);
         let mut due = |clock| {
             let due = tally.due(&[1; 8], clock);
             (due.tick, due.deadlines)

@@ -1,10 +1,11 @@
 //! What is done for ids that have left the comparison.
-//! Both sides get their packets, and nothing of them is judged.
+//! Both sides get their packets. Nothing of them is compared; what the library's wakes put out is judged by the
+//! comparison's own count of pieces.
 
 use super::{of, Difference, Run};
-use crate::call::{Call, Got, Id, Packet, Said, Taken, Wake};
+use crate::call::{Call, Got, Hours, Id, Packet, Said, Taken, Wake};
 use crate::frame;
-use crate::judge::judge;
+use crate::judge::{judge, judge_count};
 use crate::library::Node;
 use crate::list::Entry;
 use crate::live::left::Listed;
@@ -50,8 +51,7 @@ impl Run<'_> {
         self.end.get_or_insert((self.entries.len(), why));
         self.left.add(id, why);
         self.coverage.left(why);
-        self.keep_unjudged(call, got);
-        Ok(())
+        self.keep_unjudged(call, got)
     }
 
     /// What shows that the original has not done with a packet what the difference is from.
@@ -71,12 +71,12 @@ impl Run<'_> {
             self.coverage.outside(OF_LEFT.to_string());
             return Ok(Vec::new());
         };
-        let got = self.node.call(&call);
+        let got = self.ask_library(&call);
         let in_domain = !got.is_added_refusal() && !is_too_long(packet);
         let mut woken = if in_domain { self.original.call(&call).packets } else { Vec::new() };
         words::last_refusal();
         woken.retain(|packet| !self.left.has(&packet.id()));
-        self.keep_unjudged(call, &got);
+        self.keep_unjudged(call, &got)?;
         let senders = self.senders(&woken)?;
         let (left, others): (Vec<Id>, Vec<Id>) = senders.into_iter().partition(|id| self.left.has(id));
         // Only the original says whether the others woke; it shows where one of them had something to send.
@@ -84,13 +84,13 @@ impl Run<'_> {
             others.into_iter().try_for_each(|id| self.wake(Wake::Send, id, of(&woken, &id)))?;
         }
         if got.wake == 1 {
-            left.into_iter().for_each(|id| self.wake_unjudged(Wake::Send, id));
+            left.into_iter().try_for_each(|id| self.wake_unjudged(Wake::Send, id))?;
         }
         Ok(woken)
     }
 
     /// Takes the messages of ids that have left out of the library, in front of a take that is compared.
-    pub(super) fn throw_away_left(&mut self) {
+    pub(super) fn throw_away_left(&mut self) -> Result<(), Difference> {
         while !self.left.is_empty() {
             let mut after = self.node.clone();
             let got = after.call(&Call::Take);
@@ -98,8 +98,9 @@ impl Run<'_> {
                 break;
             }
             self.node = after;
-            self.keep_unjudged(Call::Take, &got);
+            self.keep_unjudged(Call::Take, &got)?;
         }
+        Ok(())
     }
 
     /// Takes the oldest message from the original that is not of an id that has left.
@@ -117,27 +118,32 @@ impl Run<'_> {
     }
 
     /// Wakes the library's sender of an id that has left, by the timers that are due.
-    pub(super) fn timers_of_left(&mut self, id: Id, due: Due) {
+    pub(super) fn timers_of_left(&mut self, id: Id, due: Due) -> Result<(), Difference> {
         if due.tick {
-            self.wake_unjudged(Wake::Send, id);
+            self.wake_unjudged(Wake::Send, id)?;
         }
-        (0..due.deadlines).for_each(|_| self.wake_unjudged(Wake::Deadline, id));
+        (0..due.deadlines).try_for_each(|_| self.wake_unjudged(Wake::Deadline, id))
     }
 
     /// Wakes the library's sender of an id that has left.
-    pub(super) fn wake_unjudged(&mut self, kind: Wake, id: Id) {
-        let call = Call::Wake(kind, id, self.clock);
-        let got = self.node.call(&call);
-        self.keep_unjudged(call, &got);
+    pub(super) fn wake_unjudged(&mut self, kind: Wake, id: Id) -> Result<(), Difference> {
+        let got = self.ask_to_wake(kind, &id, &Hours::always());
+        self.keep_unjudged(Call::Wake(kind, id, self.clock), &got)
     }
 
     /// Keeps a call of an id that has left in list and tally, with what the library itself answered.
-    fn keep_unjudged(&mut self, call: Call, got: &Got) {
+    /// Only its pieces are judged: those of a wake, and how many it says they are.
+    pub(super) fn keep_unjudged(&mut self, call: Call, got: &Got) -> Result<(), Difference> {
         let said = got.expected(&call);
+        if let Err(why) = judge_count(got) {
+            return Err(self.differ(call, said, why));
+        }
+        self.judge_wake(&call, got)?;
         self.coverage.outside(OF_LEFT.to_string());
         self.unjudged.extend(got.packets.iter().cloned());
         self.note(&call, &said);
         self.entries.push(Entry { call, said });
+        Ok(())
     }
 }
 
@@ -335,7 +341,7 @@ mod tests {
     /// A call that only the library gets.
     fn library_alone(run: &mut Run<'_>, call: Call) {
         let got = run.node.call(&call);
-        run.keep_unjudged(call, &got);
+        run.keep_unjudged(call, &got).unwrap_or_else(|difference| panic!("{}", difference.why));
     }
 
     /// A call that only the original gets.

@@ -46,7 +46,7 @@ mod with_the_original {
     const SEEDS: &str = "40";
 
     /// Each fault, with the call at which it must show.
-    const FAULTS: [(&str, &str); 19] = [
+    const FAULTS: [(&str, &str); 27] = [
         ("reply", "packet"),
         ("report", "report"),
         ("take", "take"),
@@ -66,11 +66,20 @@ mod with_the_original {
         ("stamp", "wake 1"),
         ("open", "wake 1"),
         ("calendar", "wake 1"),
+        ("nine", "wake 1"),
+        ("unsent", "wake 1"),
+        ("wanting", "wake 1"),
+        ("due-first", "wake 1"),
+        ("falling", "wake 1"),
+        ("counted", "packet"),
+        ("stay-full", "wake 1"),
+        ("leave-full", "wake 1"),
     ];
 
     /// Why ids leave.
     const SHORT_LAST_PIECE: &str = "C-11, a short last piece";
     const EQUAL_INIT: &str = "C-12, an equal init";
+    const FULL_WAKE: &str = "C-15, a wake with more than eight pieces to send";
 
     /// How many sequences are searched for one in which an id leaves before a difference.
     const SEARCHED: u64 = 400;
@@ -101,7 +110,7 @@ mod with_the_original {
             last.split(' ').next().and_then(|number| number.parse().ok()).expect("a number of calls");
         assert!(calls > 10_000, "{last}");
         let left = text.lines().find(|line| line.contains(" ids left the comparison: ")).expect("who left");
-        let told = [format!(": {SHORT_LAST_PIECE}: "), format!("; {EQUAL_INIT}: ")];
+        let told = [SHORT_LAST_PIECE, EQUAL_INIT, FULL_WAKE].map(|why| format!(" {why}: "));
         assert!(told.iter().all(|why| left.contains(why)) && !left.starts_with("  0 of "), "{left}");
     }
 
@@ -123,6 +132,7 @@ mod with_the_original {
             ("leave-init", EQUAL_INIT, "the library's stores have changed"),
             ("leave-early", EQUAL_INIT, "the original then answers "),
             ("restart", EQUAL_INIT, "the library's stores have changed"),
+            ("leave-full", FULL_WAKE, "1 pieces want sending and the original sends 0"),
         ] {
             let (_, text) = oracle(&["--seeds", SEEDS, "--fault", fault]);
             let first = text.lines().next().expect("a first line");
@@ -149,6 +159,24 @@ mod with_the_original {
         }
     }
 
+    /// Faults in what a wake sends, stamps or counts, with what is said of them.
+    #[test]
+    fn the_pieces_of_a_wake_are_counted() {
+        for (fault, told) in [
+            ("nine", " the library sends 0 1 2 3 4 5 6 7 8, not 0 1 2 3 4 5 6 7\n"),
+            ("unsent", " pieces that want sending the library sends "),
+            ("wanting", " pieces and puts out 8\n"),
+            ("due-first", " pieces that want sending the library sends "),
+            ("falling", " pieces that want sending the library sends "),
+            ("counted", ": the library counts 1 pieces and puts out 0\n"),
+            ("stay-full", ": the library puts out 8 packets, the original "),
+        ] {
+            let (_, text) = oracle(&["--seeds", SEEDS, "--fault", fault]);
+            let first = text.split_inclusive('\n').next().expect("a first line");
+            assert!(first.contains(told), "{fault}: {first}");
+        }
+    }
+
     /// Whether what was printed differs at its last call, and not before.
     fn differs_at_its_last_call(name: &str, text: &str) {
         let shown = file(&format!("{name}.txt"), text);
@@ -162,7 +190,7 @@ mod with_the_original {
 
     #[test]
     fn a_difference_comes_with_the_shortest_beginning_that_shows_it() {
-        for fault in ["reply", "leave", "stay", "stay-init"] {
+        for fault in ["reply", "leave", "stay", "stay-init", "stay-full"] {
             let (_, text) = oracle(&["--seeds", SEEDS, "--fault", fault]);
             differs_at_its_last_call(fault, &text);
         }
@@ -170,7 +198,7 @@ mod with_the_original {
 
     #[test]
     fn it_does_so_after_an_id_has_left() {
-        for (name, why) in [("short", SHORT_LAST_PIECE), ("equal", EQUAL_INIT)] {
+        for (name, why) in [("short", SHORT_LAST_PIECE), ("equal", EQUAL_INIT), ("full", FULL_WAKE)] {
             let told = format!(
                 " has left the comparison: {why}; its calls are here with the library's own answers\n"
             );
@@ -190,7 +218,7 @@ mod with_the_original {
         assert!(text.contains("  0 of ") && text.contains(" ids left the comparison\n"), "{text}");
         let missing =
             text.lines().find(|line| line.starts_with("not met in this run: ")).expect("what is missing");
-        for name in [SHORT_LAST_PIECE, EQUAL_INIT] {
+        for name in [SHORT_LAST_PIECE, EQUAL_INIT, FULL_WAKE] {
             let told = format!(", an id that leaves the comparison ({name})");
             assert!(missing.contains(&told), "{missing}");
         }

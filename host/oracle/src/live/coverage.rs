@@ -270,10 +270,10 @@ mod tests {
             assert_eq!(coverage.too_many_left(), None, "each has its own bound");
         }
         coverage.left(Listed::EqualInit);
-        let told = "7 of 200 ids left the comparison (C-12, an equal init), more than 3 in 100";
+        let told = "5 of 200 ids left the comparison (C-12, an equal init), more than 2 in 100";
         assert_eq!(coverage.too_many_left().as_deref(), Some(told));
         coverage.left(Listed::ShortLastPiece);
-        let told = "11 of 200 ids left the comparison (C-11, a short last piece), more than 5 in 100";
+        let told = "9 of 200 ids left the comparison (C-11, a short last piece), more than 4 in 100";
         assert_eq!(coverage.too_many_left().as_deref(), Some(told));
     }
 
@@ -286,15 +286,19 @@ mod tests {
             Listed::ALL.map(|why| by(why.name()))
         };
         assert_eq!(coverage.left_line(), "  0 of 3 ids left the comparison\n");
-        assert_eq!(missing(&coverage), [true, true]);
+        assert_eq!(missing(&coverage), [true, true, true]);
         coverage.join(met(4, 2));
-        assert_eq!(missing(&coverage), [false, true]);
+        assert_eq!(missing(&coverage), [false, true, true]);
         let line = "  2 of 7 ids left the comparison: C-11, a short last piece: 2\n";
         assert!(coverage.lines().ends_with(line), "{}", coverage.lines());
         coverage.left(Listed::EqualInit);
-        assert_eq!(missing(&coverage), [false, false]);
+        assert_eq!(missing(&coverage), [false, false, true]);
         let line = "  3 of 7 ids left the comparison: C-11, a short last piece: 2; C-12, an equal init: 1\n";
         assert!(coverage.lines().ends_with(line), "{}", coverage.lines());
+        coverage.left(Listed::FullWake);
+        assert_eq!(missing(&coverage), [false, false, false]);
+        let end = "; C-15, a wake with more than eight pieces to send: 1\n";
+        assert!(coverage.lines().ends_with(end), "{}", coverage.lines());
     }
 
     fn packet(mut bytes: Vec<u8>) -> Packet {

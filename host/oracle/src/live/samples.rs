@@ -4,11 +4,11 @@
 
 use std::collections::BTreeSet;
 
-use crate::call::{Address, Call, Id, Packet, Push, Setup, FRAME, MOST_CELLS};
+use crate::call::{Address, Call, Id, Packet, Push, Setup, ACK, FRAME, MOST_CELLS};
 use crate::frame;
 use crate::list::List;
 use crate::live::compare;
-use crate::live::coverage::{Coverage, BOUNDARY_LENGTHS};
+use crate::live::coverage::Coverage;
 use crate::live::run::{Difference, Run, Step};
 use crate::live::{clock, stack};
 
@@ -20,10 +20,14 @@ const RANDOM_BYTES: usize = 45_000;
 /// Every number that the original has a counterpart for, but 23.
 const NUMBERS: [u64; 16] = [0, 4, 5, 8, 9, 10, 11, 13, 14, 15, 16, 17, 18, 19, 20, 21];
 
-/// Each list with its name: three made by hand, and random ones until every number has come up in those.
+/// Lengths where the protocol's arithmetic turns, up to those of eight pieces: of a longer message, a wake of the
+/// library does not send all.
+const LENGTHS: [usize; 11] = [0, 1, 249, 250, 251, 1299, 1300, 1301, 1550, 10_399, 10_400];
+
+/// Each list with its name: four made by hand, and random ones until every number has come up in those.
 /// A random list that would end early is not kept.
 pub fn samples() -> Result<Vec<(String, List)>, Difference> {
-    let by_hand = [("lengths", lengths()?), ("flags", flags()?), ("inits", inits()?)];
+    let by_hand = [("lengths", lengths()?), ("flags", flags()?), ("inits", inits()?), ("wakes", wakes()?)];
     let mut samples = Vec::from(by_hand.map(|(name, list)| (name.to_string(), list)));
     let mut wanted = BTreeSet::from(NUMBERS);
     for seed in 1.. {
@@ -64,14 +68,14 @@ fn framed(packet: &Packet) -> Packet {
     Packet { bytes, ..packet.clone() }
 }
 
-/// Messages of the boundary lengths over a good link, and what becomes of each: taken, or given up at its deadline.
+/// Messages of these lengths over a good link, and what becomes of each: taken, or given up at its deadline.
 /// Those with a short last piece come last: the list ends where that piece arrives.
 fn lengths() -> Result<List, Difference> {
     let (setup, mut coverage) = (setup(), Coverage::default());
     let me = stack::address(&setup.key);
     let mut run = Run::new(setup, START, &mut coverage, None)?;
     run.step(Step::Call(Call::Known([me].into())))?;
-    let mut lengths: Vec<(usize, usize)> = BOUNDARY_LENGTHS.into_iter().enumerate().collect();
+    let mut lengths: Vec<(usize, usize)> = LENGTHS.into_iter().enumerate().collect();
     lengths.sort_by_key(|(_, length)| has_short_last_piece(*length));
     for (number, length) in lengths {
         let message = push(number + 1, length);
@@ -122,6 +126,35 @@ fn flags() -> Result<List, Difference> {
             run.step(Step::Call(Call::Report(id)))?;
         }
     }
+    Ok(run.into_list())
+}
+
+/// A message of eight pieces that are lost, in part, again and again: those that are due leave with one wake.
+/// Then one of nine pieces, of which the original sends all with its first wake: there the list ends.
+fn wakes() -> Result<List, Difference> {
+    let (setup, mut coverage) = (setup(), Coverage::default());
+    let me = stack::address(&setup.key);
+    let mut run = Run::new(setup, START, &mut coverage, None)?;
+    run.step(Step::Call(Call::Known([me].into())))?;
+    let packet = |bytes| Packet { from: PEER, to: me, bytes };
+    let acknowledged = |id, index| packet(frame::chunk(id, ACK, index, 1_300 * index, 1_300, &[]));
+    let message = push(1, 10_400);
+    let id = message.id;
+    run.step(Step::Call(Call::Push(message)))?;
+    hand(&mut run, &[&packet(frame::init(id, ACK, 10_400, &[]))])?;
+    for round in [&[7, 0][..], &[], &[3, 8], &[1, 2, 3, 4], &[6, 5]] {
+        for index in round {
+            hand(&mut run, &[&acknowledged(id, *index)])?;
+        }
+        for later in [50, 49, 1] {
+            run.step(Step::Clock(run.clock + later))?;
+            run.step(Step::Call(Call::Report(id)))?;
+        }
+    }
+    let longer = push(2, 11_700);
+    let init = packet(frame::init(longer.id, ACK, 11_700, &[]));
+    run.step(Step::Call(Call::Push(longer)))?;
+    hand(&mut run, &[&init])?;
     Ok(run.into_list())
 }
 

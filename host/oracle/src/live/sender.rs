@@ -201,7 +201,10 @@ mod tests {
         assert_eq!(sender.wake(50), []);
         piece(&mut sender, 0);
         let sum = blake3::hash(&sender.push.data);
-        assert_eq!(sender.wake(50), [Packet { bytes: frame::done(ID, 0, 2, sum.as_bytes()), ..sent[0].clone() }]);
+        assert_eq!(
+            sender.wake(50),
+            [Packet { bytes: frame::done(ID, 0, 2, sum.as_bytes()), ..sent[0].clone() }]
+        );
         sender.acknowledged(&packet(frame::done(ID, ACK, 0, &[0; 32])));
         assert_eq!(sender.wake(5_000), []);
         let mut late = announced(1);

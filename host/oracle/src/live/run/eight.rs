@@ -37,7 +37,12 @@ impl Run<'_> {
 
     /// The id of a send wake leaves the comparison, if the original has put out all that wants sending.
     /// That the library has put out the first eight is judged like any wake of an id that has left.
-    pub(super) fn leave_at_wake(&mut self, id: Id, got: &Got, packets: Vec<Packet>) -> Result<(), Difference> {
+    pub(super) fn leave_at_wake(
+        &mut self,
+        id: Id,
+        got: &Got,
+        packets: Vec<Packet>,
+    ) -> Result<(), Difference> {
         let (why, call) = (Listed::FullWake, Call::Wake(Wake::Send, id, self.clock));
         let sender = &self.tally.senders[&id];
         let count = sender.wanting(self.clock).count();

@@ -161,6 +161,7 @@ mod tests {
     use crate::live::clock;
     use crate::live::coverage::Coverage;
     use crate::live::run::Step;
+    use crate::live::sender::brief;
     use crate::replay::replay;
 
     const START: u64 = 1_000_000;
@@ -198,7 +199,12 @@ mod tests {
     }
 
     fn push(id: Id) -> Call {
-        let (topic, data) = (Vec::new(), vec![5; 2_600]);
+        push_of(id, 2)
+    }
+
+    /// A push of so many pieces.
+    fn push_of(id: Id, pieces: usize) -> Call {
+        let (topic, data) = (Vec::new(), vec![5; 1_300 * pieces]);
         Call::Push(Push { id, reply: false, to: PEER, topic, data, created: 1_000, try_ms: 1 })
     }
 
@@ -223,6 +229,49 @@ mod tests {
         assert!(list.end.is_some_and(|why| why.ends_with("(C-11, a short last piece)")));
         let list = with_run(|run| drop(call(run, packet(frame::init(LEFT, 0, 1_301, &[])))));
         assert_eq!((list.entries.len(), list.end), (2, None));
+    }
+
+    #[test]
+    fn an_id_leaves_at_a_wake_with_more_than_eight_pieces_to_send() {
+        let acknowledged = || packet(frame::init(LEFT, ACK, 0, &[]));
+        let list = with_run(|run| {
+            call(run, push_of(LEFT, 9));
+            let first = call(run, acknowledged());
+            assert_eq!(brief(&first), "0 1 2 3 4 5 6 7", "the library's pieces go on the link");
+            assert!(run.left.has(&LEFT));
+            assert_eq!(run.end, Some((run.entries.len() - 1, Listed::FullWake)));
+            // the original has sent all nine, and sends them all again with the next tick
+            assert_eq!(brief(&step(run, Step::Clock(START + 50))), "");
+            assert_eq!(brief(&step(run, Step::Clock(START + 100))), "8 0 1 2 3 4 5 6");
+            assert_eq!(brief(&step(run, Step::Clock(START + 200))), "7 0 1 2 3 4 5 6");
+            call(run, packet(frame::chunk(LEFT, ACK, 7, 0, 0, &[])));
+            assert_eq!(brief(&step(run, Step::Clock(START + 300))), "0 1 2 3 4 5 6");
+        });
+        assert_eq!(list.entries.len(), 3, "known keys, a push and an acknowledgement");
+        assert!(list
+            .end
+            .is_some_and(|why| why.ends_with("(C-15, a wake with more than eight pieces to send)")));
+        let list = with_run(|run| {
+            call(run, push_of(LEFT, 8));
+            assert_eq!(pieces(&call(run, acknowledged()), LEFT), 8);
+            assert_eq!(pieces(&step(run, Step::Clock(START + 100)), LEFT), 8);
+            assert!(!run.left.has(&LEFT), "eight are compared");
+        });
+        assert_eq!((list.entries.len(), list.end), (5, None));
+    }
+
+    #[test]
+    fn a_wake_of_what_has_left_is_judged_by_the_comparisons_own_count() {
+        with_run(|run| {
+            call(run, push_of(LEFT, 9));
+            call(run, packet(frame::init(LEFT, ACK, 0, &[])));
+            // the library alone is woken, and nobody is told
+            run.node.call(&Call::Wake(Wake::Send, LEFT, START));
+            let why = run.step(Step::Clock(START + 100)).err().map(|difference| difference.why);
+            let told = "of 9 pieces that want sending the library sends 0 1 2 3 4 5 6 7, not 8 0 1 2 3 4 5 6";
+            assert_eq!(why.as_deref(), Some(told));
+            run.entries.clear();
+        });
     }
 
     /// An init of 2,000 bytes, which has two slots.

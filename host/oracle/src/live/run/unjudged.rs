@@ -244,8 +244,12 @@ mod tests {
             assert_eq!(brief(&step(run, Step::Clock(START + 50))), "");
             assert_eq!(brief(&step(run, Step::Clock(START + 100))), "8 0 1 2 3 4 5 6");
             assert_eq!(brief(&step(run, Step::Clock(START + 200))), "7 0 1 2 3 4 5 6");
-            call(run, packet(frame::chunk(LEFT, ACK, 7, 0, 0, &[])));
-            assert_eq!(brief(&step(run, Step::Clock(START + 300))), "0 1 2 3 4 5 6");
+            assert_eq!(
+                brief(&call(run, packet(frame::chunk(LEFT, ACK, 7, 0, 0, &[])))),
+                "8",
+                "it wakes at once"
+            );
+            assert_eq!(brief(&step(run, Step::Clock(START + 300))), "0 1 2 3 4 5 6 8");
         });
         assert_eq!(list.entries.len(), 3, "known keys, a push and an acknowledgement");
         assert!(list

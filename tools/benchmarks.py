@@ -35,7 +35,7 @@ TRANSFER = {
     "push": ("push", "tablet", 1),
     "init": ("init", "office", 2),
     "ack-init": ("ack of an init", "tablet", 2),
-    "wake-chunks": ("wake, sends 25 chunks", "tablet", 1),
+    "wake-chunks": ("wake, sends up to 8 chunks", "tablet", 1),
     "chunk": ("chunk", "office", 2),
     "ack-chunk": ("ack of a chunk", "tablet", 2),
     "wake-done": ("wake, sends the done: a sum", "tablet", 1),
@@ -232,6 +232,16 @@ def cells(figures):
     )
 
 
+def wakes(figures):
+    labels = {
+        "none": "none",
+        "new": "25, never sent",
+        "due": "25, sent at one time",
+        "stamps": "25, sent at four times, the first ones not first",
+    }
+    return table(["pieces that want sending", "wake, ns"], [[label, ns(figures.get("wakes", name, 25))] for name, label in labels.items()])
+
+
 def transfer(figures):
     ours, theirs = figures.get("transfer", "ours"), figures.find("transfer", "original")
     if theirs is None:
@@ -343,6 +353,12 @@ A difference may be off by some 10 ns, and so below 0; the bar is about the seco
 The wakes beside them have 45 cells: full has 8 messages in 43 of them, empty the one.
 
 {hours(figures)}
+## Wakes
+
+A send wake of a message of 25 pieces, on a store of 45 cells that are all held.
+A wake sends at most eight pieces, 10,960 bytes with their addresses and headers.
+
+{wakes(figures)}
 ## A whole transfer
 
 32,500 bytes from one node to another in memory: push, init, 25 chunks, done, each acknowledged, take, read.

@@ -5,7 +5,9 @@ use benches::library::Node;
 use benches::scene::{self, Scene};
 use criterion::{black_box, criterion_group, criterion_main, BatchSize, BenchmarkId, Criterion};
 use criterion::{measurement::WallTime, BenchmarkGroup};
-use socketlemon::{Calendar, Date, Refusal, Store, Wake};
+use oracle::call::ACK;
+use oracle::frame;
+use socketlemon::{Calendar, Date, Refusal, Store, Wake, WAKE_RUN};
 
 const CELLS: [usize; 4] = [1, 5, 15, Store::MOST_CELLS];
 
@@ -167,6 +169,38 @@ fn hours(c: &mut Criterion) {
     }
 }
 
+/// A node of the most cells, all in use, with a message of 25 pieces that is announced and then woken at these clocks.
+fn announced(clocks: &[u64]) -> Node {
+    let mut node = Node::new(benches::KEY, benches::PEER_KEY, Store::MOST_CELLS);
+    node.push(LEAVING, &benches::message(benches::LONGEST));
+    node.push([1; 8], &benches::message(20 * benches::PIECE));
+    let init = frame::init(LEAVING, ACK, benches::LONGEST as u64, &[]);
+    node.packet(&benches::framed(init)).expect("an acknowledgement");
+    for clock_ms in clocks {
+        let calendar = Calendar::always();
+        let wake = Wake::Send { clock_ms: *clock_ms, calendar: &calendar, unix_ms: 0 };
+        node.wake_as(wake, LEAVING).expect("the message leaves");
+    }
+    node
+}
+
+/// Send wakes of a message of 25 pieces, by which of them want sending: none; all, never sent; all, sent at one time; all, sent at
+/// four times, of which the oldest is not that of the first pieces.
+fn wakes(c: &mut Criterion) {
+    let mut group = c.benchmark_group("wakes");
+    let always = Calendar::always();
+    let eight = Ok(WAKE_RUN);
+    for (name, clocks, clock_ms, answer) in [
+        ("none", &[0, 0, 0, 0][..], 99, Ok(0)),
+        ("new", &[], 0, eight),
+        ("due", &[0, 0, 0, 0], 1_000, eight),
+        ("stamps", &[0, 10, 20, 30, 125], 1_000, eight),
+    ] {
+        let send = Wake::Send { clock_ms, calendar: &always, unix_ms: 0 };
+        wake(&mut group, BenchmarkId::new(name, 25), &announced(clocks), send, LEAVING, answer);
+    }
+}
+
 /// What the clock itself adds to each call.
 fn clock(c: &mut Criterion) {
     time(&mut c.benchmark_group("clock"), BenchmarkId::new("nothing", 0), &zeros(1), |stores| {
@@ -174,5 +208,5 @@ fn clock(c: &mut Criterion) {
     });
 }
 
-criterion_group!(all, calls, cells, hours, clock);
+criterion_group!(all, calls, cells, hours, wakes, clock);
 criterion_main!(all);

@@ -4,7 +4,7 @@
 use std::time::{Duration, Instant};
 
 use benches::library::{self, Node};
-use benches::{framed, message, KEY, LONGEST, PEER_KEY};
+use benches::{framed, message, KEY, LONGEST, PEER_KEY, PIECE};
 use criterion::{
     criterion_group, criterion_main, measurement::WallTime, BatchSize, BenchmarkGroup, BenchmarkId, Criterion,
 };
@@ -89,13 +89,15 @@ fn hand(caller: &mut impl Caller, node: &mut Node, packets: Vec<Packet>) -> (Vec
 /// Sends a message from the tablet to the office, and gives it as it was taken there.
 fn ours(caller: &mut impl Caller, (tablet, office): &mut (Node, Node), data: &[u8]) -> Vec<u8> {
     let mut out = library::packets(caller.call("push", || tablet.push(ID, data)));
-    let mut wakes = ["wake-chunks", "wake-done"].into_iter();
+    let mut left = data.len().div_ceil(PIECE);
     while !out.is_empty() {
         let (replies, _) = hand(caller, office, out);
         let (_, wake) = hand(caller, tablet, replies);
         out = if wake {
-            let name = wakes.next().expect("the tablet wakes twice");
-            library::packets(caller.call(name, || tablet.wake(ID)))
+            let name = if left > 0 { "wake-chunks" } else { "wake-done" };
+            let run = caller.call(name, || tablet.wake(ID));
+            left -= run.pieces();
+            library::packets(run)
         } else {
             Vec::new()
         };

@@ -434,7 +434,9 @@ static socketlemon_answer wake(buffer send, uint64_t kind, uint64_t clock, buffe
     socketlemon_answer a = socketlemon_wake(send.at, send.len, kind, id, clock, c.at, c.len, unix_ms, run.at, run.len);
     answer("wake", a, run, 1, &send);
     expect("the calendar stays", same_from(c, 0));
-    int formed = well_formed(c);
+    int formed = well_formed(c), is_short = run.len < SOCKETLEMON_WAKE_RUN;
+    if (kind == SEND && formed && b.number != SOCKETLEMON_UNSOUND_STORE)
+        expect("a send wake's run buffer", (a.number == SOCKETLEMON_SHORT_OUTPUT) == is_short);
     if (kind == SEND && !formed && b.number != SOCKETLEMON_UNSOUND_STORE) {
         expect("a wake with a bad calendar", a.number == SOCKETLEMON_BAD_CALENDAR);
     } else if (kind == SEND && formed && !is_open(c, unix_ms)) {

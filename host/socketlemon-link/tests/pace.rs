@@ -86,9 +86,9 @@ fn without_an_acknowledgement_eight_leave_every_100_ms() {
     assert_eq!(again, (0..15).collect::<Vec<u8>>());
 }
 
-/// Where each piece is acknowledged, they come by index, and the done behind them.
+/// Where each piece is acknowledged as it comes.
 #[test]
-fn acknowledgements_bring_the_others() {
+fn pieces_come_by_index_and_the_done_behind_them() {
     let folder = Folder::new();
     let mut tablet = Tablet::start(&folder);
     let init = tablet.next(INIT);

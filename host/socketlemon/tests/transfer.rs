@@ -55,7 +55,7 @@ fn messages_arrive_as_they_were() {
             assert!(!taken.record.reply);
 
             let packets: Vec<_> = read.packets().collect();
-            assert_eq!(packets.len(), 1, "one read packet");
+            assert_eq!((packets.len(), read.pieces()), (1, 0), "one read packet");
             let mut reply = [0; LONGEST_RUN];
             tablet.packet(packets[0], &mut reply).expect("read");
             assert_eq!(tablet.send.report(ID).expect("report").state, State::Read);

@@ -25,13 +25,15 @@ impl Side {
         }
     }
 
-    /// Hands over a packet.
+    /// Hands over a packet. Whatever it is, no piece is sent for it.
     pub fn packet<'r>(&mut self, packet: Packet<'_>, run: &'r mut [u8]) -> Result<Answer<'r>, Refusal> {
         let mut frame = [0; FRAME];
         frame[..packet.bytes.len()].copy_from_slice(packet.bytes);
         let (from, to) = (packet.from, packet.to);
         let arrival = Arrival { frame: &frame, from, to, rules: &self.rules, known: self.known };
-        self.receive.packet(&mut self.send, &arrival, run)
+        let answer = self.receive.packet(&mut self.send, &arrival, run)?;
+        assert_eq!(answer.run.pieces(), 0, "a packet is answered with a piece");
+        Ok(answer)
     }
 }
 

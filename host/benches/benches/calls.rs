@@ -169,7 +169,7 @@ fn hours(c: &mut Criterion) {
     }
 }
 
-/// A node of the most cells, all in use, with a message of 25 pieces that is announced and then woken at these clocks.
+/// A node with all cells in use and a message of 25 pieces that is announced, then woken at these clocks.
 fn announced(clocks: &[u64]) -> Node {
     let mut node = Node::new(benches::KEY, benches::PEER_KEY, Store::MOST_CELLS);
     node.push(LEAVING, &benches::message(benches::LONGEST));
@@ -184,8 +184,8 @@ fn announced(clocks: &[u64]) -> Node {
     node
 }
 
-/// Send wakes of a message of 25 pieces, by which of them want sending: none; all, never sent; all, sent at one time; all, sent at
-/// four times, of which the oldest is not that of the first pieces.
+/// Send wakes of a message of 25 pieces, by which of them want sending: none; all, never sent; all, sent at
+/// one time; all, sent at four times, of which the oldest is not that of the first pieces.
 fn wakes(c: &mut Criterion) {
     let mut group = c.benchmark_group("wakes");
     let always = Calendar::always();

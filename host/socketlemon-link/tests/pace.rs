@@ -1,4 +1,4 @@
-//! The tablet's pace: eight pieces leave with a wake, and it wakes every 100 ms and with each acknowledgement.
+//! The tablet's pace: eight pieces leave with a wake, every 100 ms and with each acknowledgement.
 
 mod common;
 

@@ -46,7 +46,7 @@ impl<'a> Run<'a> {
     /// How many of the packets are pieces of a message, at most [`WAKE_PIECES`](crate::WAKE_PIECES). Only a
     /// [`Wake::Send`](crate::Wake::Send) sends any.
     ///
-    /// For the run of a call this is the number that the library answers, for [`Run::from_bytes`] it is counted.
+    /// Of the run of a call this is what the library answers; of [`Run::from_bytes`] it is counted.
     pub fn pieces(&self) -> usize {
         self.pieces
     }

@@ -152,8 +152,9 @@ impl Store {
 
     /// Wakes a message of the send store. The run buffer has at least [`WAKE_RUN`](crate::WAKE_RUN) bytes.
     ///
-    /// A [`Wake::Send`] sends at most [`WAKE_PIECES`](crate::WAKE_PIECES) pieces, in this order: those never sent yet by index, then those that are due
-    /// again, the one sent longest ago first. [`Run::pieces`] says how many; where that is the most, others may be left for the next wake.
+    /// A [`Wake::Send`] sends at most [`WAKE_PIECES`](crate::WAKE_PIECES) pieces: those never sent yet by
+    /// index, then those that are due again, the one sent longest ago first. [`Run::pieces`] says how many;
+    /// where that is the most, others may be left for the next wake.
     ///
     /// Outside the hours of its calendar a [`Wake::Send`] sends nothing and changes nothing: the run is empty.
     pub fn wake<'r>(&mut self, wake: Wake<'_>, id: Id, run: &'r mut [u8]) -> Result<Run<'r>, Refusal> {

@@ -44,7 +44,8 @@ fn stamps(store: &Store) -> Vec<(u8, u8, u64)> {
     all
 }
 
-/// The indexes of the pieces that a wake sends, in their order. They alone are stamped, and the library's count is theirs.
+/// The indexes of the pieces that a wake sends, in their order. They alone are stamped, and counted by the
+/// library.
 fn sent(tablet: &mut Side, clock_ms: u64) -> Vec<u8> {
     let before = stamps(&tablet.send);
     let mut run = [0; LONGEST_RUN];

@@ -1,7 +1,7 @@
 //! The ids that have left the comparison.
 //!
-//! Where the library differs from the original on purpose, the two hold different things from that packet or wake
-//! on. Its id then leaves the comparison for good, in both stores.
+//! Where the library differs from the original on purpose, the two hold different things from that packet or
+//! wake on. Its id then leaves the comparison for good, in both stores.
 
 use std::collections::BTreeMap;
 

@@ -20,8 +20,8 @@ const RANDOM_BYTES: usize = 45_000;
 /// Every number that the original has a counterpart for, but 23.
 const NUMBERS: [u64; 16] = [0, 4, 5, 8, 9, 10, 11, 13, 14, 15, 16, 17, 18, 19, 20, 21];
 
-/// Lengths where the protocol's arithmetic turns, up to those of eight pieces: of a longer message, a wake of the
-/// library does not send all.
+/// Lengths where the protocol's arithmetic turns, up to those of eight pieces: of a longer message, a wake of
+/// the library does not send all.
 const LENGTHS: [usize; 11] = [0, 1, 249, 250, 251, 1299, 1300, 1301, 1550, 10_399, 10_400];
 
 /// Each list with its name: four made by hand, and random ones until every number has come up in those.

@@ -1,6 +1,6 @@
 //! What a send wake puts out for a message, by the comparison's own count of its pieces.
-//! It goes by document 02, at most eight a wake, and shares nothing with the library. It holds for ids that are
-//! compared and goes on for those that have left, of which the original no longer tells.
+//! It goes by document 02, at most eight a wake, and shares nothing with the library.
+//! It holds for ids that are compared, and goes on for those that have left.
 
 use crate::call::{Address, Packet, Push, ACK, WAKE_PIECES};
 use crate::frame::{self, Kind};

@@ -1,5 +1,5 @@
-//! Send wakes by the comparison's own count of pieces: what the library must put out, also for ids that have left,
-//! and where an id leaves because the original puts out more.
+//! Send wakes by the comparison's own count of pieces: what the library must put out, also for ids that have
+//! left, and where an id leaves because the original puts out more.
 
 use super::{Difference, Run};
 use crate::call::{Call, Got, Hours, Id, Packet, Said, Wake, WAKE_PIECES};
@@ -26,7 +26,7 @@ impl Run<'_> {
         }
     }
 
-    /// Whether an id leaves with its send wake at this time: there is more to send than a wake of the library sends.
+    /// Whether an id leaves with its send wake at this time: more wants sending than the library sends.
     pub(super) fn leaves_at_wake(&self, id: &Id) -> bool {
         let Some(sender) = self.tally.senders.get(id) else {
             return false;

@@ -1,6 +1,6 @@
 //! What is done for ids that have left the comparison.
-//! Both sides get their packets. Nothing of them is compared; what the library's wakes put out is judged by the
-//! comparison's own count of pieces.
+//! Both sides get their packets. Nothing of them is compared; what the library's wakes put out is judged by
+//! the comparison's own count of pieces.
 
 use super::{of, Difference, Run};
 use crate::call::{Call, Got, Hours, Id, Packet, Said, Taken, Wake};

@@ -295,40 +295,48 @@ def push(send, key, reply, source, to, topic, data, created, tries, room=310):
     return 0, [(source, to, init_packet(record))], 0
 
 
-def wake(send, kind, key, clock, calendar=ALWAYS, unix_ms=0, room=34250):
+MOST = 8  # piece packets of a wake
+SEND_ROOM = MOST * (2 + 32 + 36 + 1300)
+
+
+def wake(send, kind, key, clock, calendar=ALWAYS, unix_ms=0, room=SEND_ROOM):
+    """An answer, and how many piece packets were sent."""
     if not sound(send, 2):
         return 25, [], 0
     if kind not in (1, 2):
         return 20, [], 0
     if kind == 1 and hours(calendar, unix_ms) == "M":
         return 26, [], 0
-    if room < (34250 if kind == 1 else 46):
+    if room < (SEND_ROOM if kind == 1 else 46):
         return 2, [], 0
     record = send["held"].get(key)
     if not record:
         return 8, [], 0
     if kind == 1 and hours(calendar, unix_ms) == "S":
         return 0, [], 0
-    packets = due(record, clock) if kind == 1 else deadline(send, record)
-    return 0, [(record["source"], record["destination"], p) for p in packets], 0
+    packets, pieces = sent(record, clock) if kind == 1 else (deadline(send, record), 0)
+    return 0, [(record["source"], record["destination"], p) for p in packets], 0, pieces
 
 
-def due(record, clock):
+def sent(record, clock):
+    """The packets of a send wake, and how many of them are pieces."""
     if record["late"]:
-        return []
+        return [], 0
     if record["state"] == 0:
-        return [init_packet(record)]
+        return [init_packet(record)], 0
     if record["state"] != 1:
-        return []
+        return [], 0
     pieces, out = record["pieces"], []
     if all(p["mark"] == "acked" for p in pieces):
         sum_of = blake3(b"".join(p["data"] for p in pieces))
-        return [header(record["id"], DONE) + struct.pack(">Q", len(pieces)) + sum_of]
-    for index, piece in enumerate(pieces):
-        if piece["mark"] == "started" or piece["mark"] == "sent" and clock - piece["stamp"] >= 100:
-            piece.update(mark="sent", stamp=clock)
-            out.append(header(record["id"], CHUNK) + struct.pack(">QQQ", index, 1300 * index, len(piece["data"])) + piece["data"])
-    return out
+        return [header(record["id"], DONE) + struct.pack(">Q", len(pieces)) + sum_of], 0
+    started = [i for i, p in enumerate(pieces) if p["mark"] == "started"]
+    due = [i for i, p in enumerate(pieces) if p["mark"] == "sent" and clock - p["stamp"] >= 100]
+    for index in (started + sorted(due, key=lambda i: (pieces[i]["stamp"], i)))[:MOST]:
+        piece = pieces[index]
+        piece.update(mark="sent", stamp=clock)
+        out.append(header(record["id"], CHUNK) + struct.pack(">QQQ", index, 1300 * index, len(piece["data"])) + piece["data"])
+    return out, len(out)
 
 
 def deadline(send, record):
@@ -372,8 +380,8 @@ def run_bytes(run):
     return sum(34 + len(p) for _, _, p in run)
 
 
-def said(number, run, mark):
-    return f": {number}, run {run_bytes(run)}, wake {mark}"
+def said(number, run, mark, pieces=0):
+    return f": {number}, run {run_bytes(run)}, wake {mark}, pieces {pieces}"
 
 
 # ---- crates/transfer
@@ -416,7 +424,7 @@ def show_report(nodes, key):
 
 
 def wakes(nodes, key, start):
-    for clock in range(start, start + 500, 100):
+    for clock in range(start, start + 700, 100):
         answer = wake(nodes[TABLET]["send"], 1, key, clock)
         print(f"wake 1 at {clock}" + said(*answer))
         if not answer[1]:
@@ -505,7 +513,7 @@ class Bench:
 
     def line(self, what, call):
         before = copy.deepcopy((self.recv, self.send))
-        answer = call()[:3]
+        answer = call()
         print(what + said(*answer) + ", store " + ("kept" if before == (self.recv, self.send) else "changed"))
         return answer[0]
 
@@ -531,7 +539,7 @@ class Bench:
         self.line(what, lambda: (report(self.send, keyed(n), room)[0], [], 0))
 
     def take(self, what, data_room=400, room=46):
-        self.line(what, lambda: take(self.recv, data_room, room))
+        self.line(what, lambda: take(self.recv, data_room, room)[:3])
 
 
 def values():
@@ -563,7 +571,7 @@ def rooms():
     for room in (309, 310):
         b.push(f"push, run of {room}", 1, b"t", b"x", room=room)
     b = Bench(True)
-    for kind, room in ((1, 34249), (1, 34250), (2, 45), (2, 46)):
+    for kind, room in ((1, SEND_ROOM - 1), (1, SEND_ROOM), (2, 45), (2, 46)):
         b.wake(f"wake {kind}, run of {room}", kind, 1, room=room)
     b = Bench(True)
     for room in (43, 44, 60):
@@ -624,15 +632,41 @@ def sends():
         b.wake("wake " + what, kind, n)
 
 
+def eight():
+    """Of ten whole pieces: which go, in which order, and when they want sending again."""
+    def ten():
+        b = Bench()
+        push(b.send, keyed(1), 0, FAR, NEAR, b"t", b"\x07" * 13000, 0, 0)
+        b.quiet(frame(1, INIT | ACK))
+        return b
+
+    def wakes_at(b, what, clock):
+        refusal, run, _, pieces = wake(b.send, 1, keyed(1), clock)
+        indices = "".join(f" {number(p, 12)}" for _, _, p in run)
+        print(f"{what}, wake at {clock}: {refusal}, run {run_bytes(run)}, pieces {pieces}{indices}")
+
+    b, last = ten(), 2 ** 64 - 1
+    for what, clock in (("ten Started", 1000), ("two Started", 1000), ("none due", 1099), ("ten due", 1100), ("two due", 1100)):
+        wakes_at(b, what, clock)
+    b.quiet(frame(1, CHUNK | ACK, 0))
+    for what, clock in (("nine due", 1200), ("nine due, piece 9 the oldest", 1300), ("one due", 1300), ("none due", 1399), ("nine due", last),
+                        ("one due", last), ("none due", last), ("none due, the clock gone back", 0)):
+        wakes_at(b, what, clock)
+    b = ten()
+    for what, clock in (("ten Started", 0), ("two Started, eight due", 100), ("two due", 100), ("none due", 199), ("ten due", 200)):
+        wakes_at(b, what, clock)
+
+
 def sending_hours():
     ten, hour = 36_000_000, 3_600_000  # of Thursday 1 January 1970
     thursdays = weekly(3, 600, 660, 720)
     b = Bench(True)
     for what, kind, n, calendar, room in (
-            ("wake 1, no calendar", 1, 1, b"", 34250), ("wake 1, calendar of 30", 1, 1, thursdays[:30], 34250), ("wake 0, no calendar", 0, 1, b"", 34250),
-            ("wake 1, no calendar, run of 34249", 1, 1, b"", 34249), ("wake 1, no calendar, unknown id", 1, 2, b"", 34250)):
+            ("wake 1, no calendar", 1, 1, b"", SEND_ROOM), ("wake 1, calendar of 30", 1, 1, thursdays[:30], SEND_ROOM),
+            ("wake 0, no calendar", 0, 1, b"", SEND_ROOM), ("wake 1, no calendar, run of 10959", 1, 1, b"", 10959),
+            ("wake 1, no calendar, unknown id", 1, 2, b"", SEND_ROOM)):
         b.wake(what, kind, n, calendar=calendar, unix_ms=ten, room=room)
-    b.wake("wake 1, shut, run of 34249", 1, 1, calendar=thursdays, room=34249)
+    b.wake("wake 1, shut, run of 10959", 1, 1, calendar=thursdays, room=10959)
     b.wake("wake 1, shut, unknown id", 1, 2, calendar=thursdays)
     b.wake("wake 2, no calendar, run of 45", 2, 1, calendar=b"", room=45)
     b.wake("wake 2, no calendar, unknown id", 2, 2, calendar=b"")
@@ -754,7 +788,7 @@ def message_values():
     values()
     flags("flags, fresh stores:", False)
     flags("flags, arriving, and leaving in state 1:", True)
-    for group in (rooms, stores, sends, sending_hours, inits, repeats, chunks, dones, acks):
+    for group in (rooms, stores, sends, eight, sending_hours, inits, repeats, chunks, dones, acks):
         group()
 
 

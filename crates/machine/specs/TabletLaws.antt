@@ -6,6 +6,7 @@ use Prim.Native.Nat.{ℕ, _+_}
 use mathlib.Core.Path.{_≡_, refl}
 use mathlib.Core.Bool.{false, cond}
 use mathlib.Core.List.{List, [], _∷_, _++_, map}
+use mathlib.Core.Option.{some}
 use lib.ListN.{length, replicate}
 use lib.Dec.{eqb}
 use Rattle.octets.specs.Octets.{part, be, num, capacity, same}
@@ -24,7 +25,7 @@ use Rattle.machine.specs.Refusals.{refusal}
 use Rattle.machine.specs.Pieces.{cutPieces, joined}
 use Rattle.machine.specs.Receive.{found, dropAt}
 use Rattle.machine.specs.Choice.{only, insert, byStamp, waiting, chosen}
-use Rattle.machine.specs.Send.{stamped, changeAt, pushStep, initOut, sentPieces, chunksOut, wakeOut, woken, deadlineOut, deadlineAt}
+use Rattle.machine.specs.Send.{stamped, timedOut, changeAt, pushStep, initOut, sentPieces, chunksOut, wakeOut, woken, deadlineOut, deadlineAt}
 use Rattle.machine.specs.Packet.{Packet, kind, kindRow, sendStep, kindWake}
 use Rattle.machine.specs.Push.{Push, pushLabel, pushRoom, pushTests}
 use Rattle.machine.specs.Wake.{Wake, sendWake, deadlineWake, waking, wakeRoom, wakeTests, wakeRun, wakePieces, wakeStep}
@@ -269,3 +270,22 @@ pub tablet-chooses : (indices (waiting 1000 thirteen) ≡ 2 ∷ 6 ∷ 8 ∷ 3 �
     × (indices (chosen 1000 (map (stamped 1000 (waiting 1000 thirteen)) thirteen)) ≡ [])
 unfolding thirteen only insert byStamp
 tablet-chooses = (refl, refl, refl, refl)
+
+-- the record that has them, in progress
+unfoldable pub busy : Rec
+busy = record {
+  place = 1;
+  label = record { id = id; source = address; destination = office; reply = 0; total = 0; topic = topic };
+  slots = 13;
+  sending = record { state = stateInProgress; timedOut = 0; created = 0; end = 0 };
+  cells = thirteen;
+}
+
+-- the wake's number is that of the chunks in its run, of 70 bytes each here, and what it leaves is stamped alike; timed out it sends none
+pub tablet-counts : let w : Wake = waking sendWake id 1000 always 0 in
+    (indices (wakePieces w (some busy)) ≡ 2 ∷ 6 ∷ 8 ∷ 3 ∷ 4 ∷ 10 ∷ 11 ∷ 0 ∷ []) × (length (wakeRun w (some busy)) ≡ 560)
+    × (indices (only (λ c. eqb (c .stamp) 1000) (woken 1000 busy .cells)) ≡ 0 ∷ 2 ∷ 3 ∷ 4 ∷ 6 ∷ 8 ∷ 10 ∷ 11 ∷ [])
+    × (sentPieces 1000 (timedOut busy) ≡ []) × (wakePieces (waking deadlineWake id 1000 always 0) (some busy) ≡ [])
+unfolding thirteen busy only insert byStamp sentPieces chunksOut wakeOut woken wakeRun wakePieces hours always wellFormed isOpen every counted times be
+    id address office topic entry chunkPacket header num part
+tablet-counts = (refl, refl, refl, refl, refl)

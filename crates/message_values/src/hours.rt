@@ -45,8 +45,8 @@ const TEN: u64 = 36000000;
 // A calendar that is cut or goes on: behind the kind of the wake, before its run and its id; and outside hours the
 // run and the id are asked for all the same.
 pub(crate) fn refused(recv: &mut [u8; 37140], send: &mut [u8; 37140]) {
-    let mut run = [0xeeu8; 34250];
-    let mut short = [0xeeu8; 34249];
+    let mut run = [0xeeu8; 10960];
+    let mut short = [0xeeu8; 10959];
     let mut brief = [0xeeu8; 45];
     make::held(recv, send);
     ask::wake_at(b"wake 1, no calendar", send, 1, 1, b"", TEN, &mut run);
@@ -54,7 +54,7 @@ pub(crate) fn refused(recv: &mut [u8; 37140], send: &mut [u8; 37140]) {
     ask::wake_at(b"wake 1, calendar of 30", send, 1, 1, cut, TEN, &mut run);
     ask::wake_at(b"wake 0, no calendar", send, 0, 1, b"", TEN, &mut run);
     ask::wake_at(
-        b"wake 1, no calendar, run of 34249",
+        b"wake 1, no calendar, run of 10959",
         send,
         1,
         1,
@@ -72,7 +72,7 @@ pub(crate) fn refused(recv: &mut [u8; 37140], send: &mut [u8; 37140]) {
         &mut run,
     );
     ask::wake_at(
-        b"wake 1, shut, run of 34249",
+        b"wake 1, shut, run of 10959",
         send,
         1,
         1,
@@ -112,7 +112,7 @@ pub(crate) fn refused(recv: &mut [u8; 37140], send: &mut [u8; 37140]) {
 
 // The last millisecond before a window, its first, its last and the next; and the deadline outside hours.
 pub(crate) fn edges(recv: &mut [u8; 37140], send: &mut [u8; 37140]) {
-    let mut run = [0xeeu8; 34250];
+    let mut run = [0xeeu8; 10960];
     make::held(recv, send);
     ask::wake_at(
         b"wake 1 before 10",

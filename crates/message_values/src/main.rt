@@ -5,6 +5,7 @@
 mod acks;
 mod arrivals;
 mod ask;
+mod eight;
 mod flags;
 mod hours;
 mod make;
@@ -35,6 +36,8 @@ fn main() {
     sends::clocks(&mut recv, &mut send);
     sends::records(&mut recv, &mut send);
     sends::kinds(&mut recv, &mut send);
+    eight::stamps(&mut recv, &mut send);
+    eight::started(&mut recv, &mut send);
     hours::refused(&mut recv, &mut send);
     hours::edges(&mut recv, &mut send);
     arrivals::inits(&mut recv, &mut send);

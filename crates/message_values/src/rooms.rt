@@ -36,10 +36,10 @@ pub(crate) fn replies(recv: &mut [u8; 37140], send: &mut [u8; 37140]) {
 // The runs of both wakes.
 pub(crate) fn wakes(recv: &mut [u8; 37140], send: &mut [u8; 37140]) {
     make::held(recv, send);
-    let mut short = [0xeeu8; 34249];
-    ask::wake(b"wake 1, run of 34249", send, 1, 1, &mut short);
-    let mut right = [0xeeu8; 34250];
-    ask::wake(b"wake 1, run of 34250", send, 1, 1, &mut right);
+    let mut short = [0xeeu8; 10959];
+    ask::wake(b"wake 1, run of 10959", send, 1, 1, &mut short);
+    let mut right = [0xeeu8; 10960];
+    ask::wake(b"wake 1, run of 10960", send, 1, 1, &mut right);
     let mut short = [0xeeu8; 45];
     ask::wake(b"wake 2, run of 45", send, 2, 1, &mut short);
     let mut right = [0xeeu8; 46];

@@ -96,7 +96,7 @@ pub(crate) fn records(recv: &mut [u8; 37140], send: &mut [u8; 37140]) {
 
 // Wakes of kinds 0 to 3, and of an id that is not there.
 pub(crate) fn kinds(recv: &mut [u8; 37140], send: &mut [u8; 37140]) {
-    let mut run = [0xeeu8; 34250];
+    let mut run = [0xeeu8; 10960];
     make::fresh(recv, send);
     make::pushed(send, 1);
     ask::wake(b"wake 0", send, 0, 1, &mut run);

@@ -15,7 +15,7 @@ pub(crate) fn field(name: &[u8], n: u64) {
 }
 
 // The byte at a, or 0 past the end.
-fn byte(s: &[u8], a: usize) -> u8 {
+pub(crate) fn byte(s: &[u8], a: usize) -> u8 {
     if a < s.len() {
         return s[a];
     }
@@ -53,6 +53,7 @@ pub(crate) fn line(what: &[u8], a: Answer, stores: bool, buffers: bool) {
     field(b": ", a.number);
     field(b", run ", a.run);
     field(b", wake ", a.wake);
+    field(b", pieces ", a.pieces);
     if stores {
         say(b", store kept");
     } else {

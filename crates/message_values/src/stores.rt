@@ -6,7 +6,7 @@ use crate::show;
 
 // Every call on a pair of stores.
 fn calls(recv: &mut [u8; 37140], send: &mut [u8; 37140]) {
-    let mut run = [0xeeu8; 34250];
+    let mut run = [0xeeu8; 10960];
     let mut out = [0xeeu8; 400];
     let init = make::frame(1, 0x80, 1, 0, 0);
     ask::packet(b"  packet", recv, send, &init, b"\0", 1, &mut run);

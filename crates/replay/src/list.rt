@@ -143,7 +143,7 @@ pub(crate) fn play(
     let mut s = State {
         rules: text.len(),
         known: text.len(),
-        call: told::made(start, kind::OTHER, answer::sent(0)),
+        call: told::made(start, kind::OTHER, answer::sent(0, 0)),
     };
     let mut at = start;
     while at < text.len() {

@@ -166,7 +166,7 @@ fn rules(line: &[u8]) -> Made {
     let Value::Is(_) = book(line, &mut out) else {
         return Made::Bad;
     };
-    Made::Of(answer::sent(0))
+    Made::Of(answer::sent(0, 0))
 }
 
 // `known ADDRESS ..`, which calls nothing.
@@ -174,7 +174,7 @@ fn known(line: &[u8]) -> Made {
     if !key::addresses(line) {
         return Made::Bad;
     }
-    Made::Of(answer::sent(0))
+    Made::Of(answer::sent(0, 0))
 }
 
 // The call of a line of that kind. What it puts out goes into `run`, what it shows into `out`.

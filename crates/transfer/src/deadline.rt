@@ -48,7 +48,7 @@ pub(crate) fn give_up(
     id: &[u8; 8],
     rules: &[u8],
 ) {
-    let mut run = [0u8; 34250];
+    let mut run = [0u8; 10960];
     wake(
         tablet_recv,
         tablet_send,

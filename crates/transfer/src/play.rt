@@ -9,7 +9,7 @@ use calendar::ALWAYS;
 const PACKETS: usize = 25;
 
 // The most wakes that a message gets.
-const WAKES: u64 = 5;
+const WAKES: u64 = 7;
 
 // The entry at a of a run comes to the node with these stores, and its reply goes into `reply`. Answers how long that is.
 pub(crate) fn arrive(
@@ -69,7 +69,7 @@ pub(crate) fn wake(send: &mut [u8], kind: u64, id: &[u8; 8], clock: u64, run: &m
     message::wake(send, kind, id, clock, &ALWAYS, 0, run)
 }
 
-// The tablet wakes from `start` on each 100 ms, until it sends nothing, and at most five times.
+// The tablet wakes from `start` on each 100 ms, until it sends nothing, and at most seven times.
 pub(crate) fn wakes(
     tablet_recv: &mut [u8],
     tablet_send: &mut [u8],

@@ -32,6 +32,7 @@ pub(crate) fn answer(a: Answer) {
     field(b": ", a.number);
     field(b", run ", a.run);
     field(b", wake ", a.wake);
+    field(b", pieces ", a.pieces);
 }
 
 // The node with that address: the tablet's ends in 1, the office's in 2.

@@ -150,7 +150,7 @@ fn send(
     sent: &[u8],
     rules: &[u8],
 ) {
-    let mut run = [0u8; 34250];
+    let mut run = [0u8; 10960];
     push(
         tablet_recv,
         tablet_send,

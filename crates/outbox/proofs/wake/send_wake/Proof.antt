@@ -57,7 +57,8 @@ returns-4 c =
     let mark = timely read .before in
     let none = c .other3 .ensures in
     rw (none .0, none .1)
-    (woke-settled (found (known mark)) _ (mark .timed-out .ensures) (timely read .if1 .left) (read .state .ensures) (other .before .if2 .left) (other .if3 .left))
+    (woke-settled (found (known mark)) _ (mark .timed-out .ensures) (timely read .if1 .left) (read .state .ensures) (other .before .if2 .left)
+    (other .if3 .left))
 
 pub send-wake-spec : {M : Type 1} → statement M
 send-wake-spec =

@@ -9,11 +9,11 @@ use Rattle.transfer.proofs.play.wakes.Tie as tie
 abbrev Inv-loop : tie.InvT-loop
 Inv-loop tablet-recv₀ tablet-send₀ office-recv₀ office-send₀ id rules start run₀ clock₀ k₀ t13 tablet-recv tablet-send office-recv office-send run
     clock k =
-    (k ≤ 5) × (length tablet-recv ≡ length tablet-recv₀) × (length tablet-send ≡ length tablet-send₀) × (length office-recv ≡ length office-recv₀)
+    (k ≤ 7) × (length tablet-recv ≡ length tablet-recv₀) × (length tablet-send ≡ length tablet-send₀) × (length office-recv ≡ length office-recv₀)
     × (length office-send ≡ length office-send₀) × (length run ≡ length run₀)
 
 abbrev μ-loop : tie.MeasureT-loop
-μ-loop tablet-recv₀ tablet-send₀ office-recv₀ office-send₀ id rules start run₀ clock₀ k₀ t13 tablet-recv tablet-send office-recv office-send run clock k = 5 - k
+μ-loop tablet-recv₀ tablet-send₀ office-recv₀ office-send₀ id rules start run₀ clock₀ k₀ t13 tablet-recv tablet-send office-recv office-send run clock k = 7 - k
 
 pub wakes-spec : {M : Type 1} → statement M
 wakes-spec =

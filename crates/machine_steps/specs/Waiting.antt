@@ -3,13 +3,13 @@
 use Prim.Native.Nat.{ℕ, suc, _+_, _≤_, _<_, min}
 use native.Mathlib.Omega.{arith}
 use mathlib.Core.Path.{_≡_, refl, sym, ap, _∙_, subst}
-use mathlib.Core.Bool.{Bool, true, false, cond, not, _&&_, _||_}
+use mathlib.Core.Bool.{Bool, true, false, cond, _||_}
 use mathlib.Core.List.{List, [], _∷_, _++_, map}
 use lib.ListN.{length, take, drop, length-take, take-append-drop}
 use lib.Dec.{eqb, leb}
-use borrow.Author.Tests.{eqb-true, eq-eqb, ne-eqb, lt-leb}
+use borrow.Author.Tests.{eqb-true, ne-eqb, lt-leb}
 use Rattle.octets.specs.Bools.{one}
-use Rattle.octets.specs.BoolsLaws.{cases, clash, split, one-le}
+use Rattle.octets.specs.BoolsLaws.{cases, clash}
 use Rattle.octets.specs.Lists.{All}
 use Rattle.octets.specs.ListsLaws.{all-true, all-to, all-left, all-join}
 use Rattle.machine.specs.Limits.{resendAfter}
@@ -17,7 +17,7 @@ use Rattle.machine.specs.Codes.{pieceStarted, pieceSent, pieceAcked}
 use Rattle.machine.specs.Values.{Cell}
 use Rattle.machine.specs.Counting.{occurs}
 use Rattle.machine.specs.Sound.{rising}
-use Rattle.machine.specs.Choice.{isStarted, isDue, only, insert, byStamp, waiting, mostSent, chosen, among}
+use Rattle.machine.specs.Choice.{isStarted, isDue, only, insert, byStamp, waiting, mostSent, chosen}
 use Rattle.machine.specs.Send.{marked, allAcked}
 use Rattle.machine_steps.specs.Totals.{total, total-append, occurs-total}
 use Rattle.machine_steps.specs.Pieces.{rising-parts}

@@ -3,12 +3,12 @@ use Prim.Native.Nat.{ℕ, zero, suc, _+_, _≤_, _<_, min}
 use native.Mathlib.Nat.{min-zero, suc-min-suc}
 use native.Mathlib.Omega.{arith}
 use mathlib.Core.Path.{_≡_, refl, sym, ap, _∙_, subst}
-use mathlib.Core.Bool.{Bool, true, false, cond, _&&_, _||_}
+use mathlib.Core.Bool.{Bool, true, false, cond}
 use mathlib.Core.List.{List, [], _∷_, _++_, map, append-nil, append-assoc}
 use lib.ListN.{length, take, drop, replicate, length-append, length-take, length-replicate, take-append-drop}
 use lib.Seq.{take-take, take-all, take-at}
 use lib.Dec.{eqb, leb, ltb}
-use borrow.Author.Tests.{eqb-true, ne-eqb, leb-true, leb-false, ltb-true, ltb-false, lt-ltb, le-ltb, le-leb, lt-leb}
+use borrow.Author.Tests.{eqb-true, ne-eqb, leb-true, leb-false, ltb-true, ltb-false, lt-ltb, le-ltb, lt-leb}
 use Rattle.octets.specs.BoolsLaws.{cases, clash, split}
 use Rattle.octets.specs.Lists.{All}
 use Rattle.octets.specs.ListsLaws.{all-of, all-left, all-join, all-map}
@@ -18,7 +18,7 @@ use Rattle.machine.specs.Values.{Cell}
 use Rattle.machine.specs.Layout.{cellPlace}
 use Rattle.machine.specs.Choice.{isStarted, isDue, only, insert, byStamp, waiting, mostSent}
 use Rattle.machine_steps.specs.Waiting.{wants, only-all, sorted-all, waiting-all}
-use Rattle.outbox.specs.Line.{rank, never, ranked, turn, putIn, eightOf, ranksOf, placesOf}
+use Rattle.outbox.specs.Line.{rank, never, ranked, turn, putIn, eightOf, ranksOf}
 
 -- ---- a number comes in
 

@@ -3,11 +3,10 @@ use Prim.Native.Nat.{_-_}
 use native.Mathlib.Omega.{arith}
 use mathlib.Core.Path.{_≡_}
 use mathlib.Core.List.{map}
-use lib.ListN.{length, getD}
+use lib.ListN.{getD}
 use Rattle.octets.specs.Octets.{capacity}
 use Rattle.machine.specs.Chains.{first}
 use Rattle.machine.specs.Layout.{cellPlace}
-use Rattle.outbox.specs.Sending.{Turn}
 use Rattle.outbox.proofs.Going.{Going, going-start, going-long, going-place, going-turn, going-more, going-done, going-out}
 use borrow.Author.Needs.{needs}
 use Rattle.outbox.proofs.due.send_due.Statement.{statement}

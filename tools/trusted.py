@@ -1,6 +1,6 @@
 #!/usr/bin/env python3
-"""Which files of definitions have to be believed: those that the contracts of the exports and the statements of the top theorems rest on, and what these
-rest on in turn. Makes docs/TRUSTED.md.
+"""Which files of definitions have to be believed: those that the contracts of the exports, that of the classroom and the statements of the top theorems
+rest on, and what these rest on in turn. Makes docs/TRUSTED.md.
 
 Use: tools/trusted.py           print the page
      tools/trusted.py --write   write docs/TRUSTED.md
@@ -15,8 +15,8 @@ import sys
 ROOT = os.path.join(os.path.dirname(os.path.abspath(__file__)), "..")
 PAGE = "docs/TRUSTED.md"
 
-# what the customer's demands are met by: the exports' contracts, and theorems by the crate and file that prove them
-CONTRACTS = "crates/socketlemon/src/lib.rt"
+# what the customer's demands are met by: the contracts of the exports and of the classroom, and theorems by the crate and file that prove them
+CONTRACTS = ("crates/socketlemon/src/lib.rt", "crates/lesson/src/show.rt")
 THEOREMS = {
     ("ledger", "DemandLaws"): ["demand3"],
     ("ledger", "InOrderLaws"): ["takes-give"],
@@ -27,6 +27,7 @@ THEOREMS = {
     ("ledger", "UntouchedLaws"): ["send-untouched", "recv-untouched"],
     ("address", "AddressLaws"): ["address-refused"],
     ("machine", "StarredLaws"): ["starred-hold"],
+    ("lesson", "SettledLaws"): ["settled-empty", "pushed-empty", "round-empty"],
 }
 
 USE = re.compile(r"^(?:ghost )?use Rattle·(\w+?)(?:·specs)?\.specs\.([\w.-]+)\.\{([^}]*)\}", re.M)
@@ -109,7 +110,8 @@ def modules():
 
 def reached(found):
     """Every definition that has to be believed, and the enums of the code that definitions speak of."""
-    todo = [(use.group(1), use.group(2), word.strip()) for use in USE.finditer(read(CONTRACTS)) for word in use.group(3).split(",")]
+    uses = [use for path in CONTRACTS for use in USE.finditer(read(path))]
+    todo = [(use.group(1), use.group(2), word.strip()) for use in uses for word in use.group(3).split(",")]
     for (crate, name), theorems in THEOREMS.items():
         for theorem in theorems:
             todo += found[crate, name].needs(theorem, statement_only=True)
@@ -132,7 +134,7 @@ def reached(found):
     return done, enums
 
 
-ORDER = ["octets", "answer", "blake3", "packet", "topic", "calendar", "address", "machine", "ledger"]
+ORDER = ["octets", "answer", "blake3", "packet", "topic", "calendar", "address", "machine", "ledger", "script", "link", "lesson"]
 
 
 def page(found, done, enums):
@@ -140,8 +142,9 @@ def page(found, done, enums):
     lines = sum(found[f].lines for f in files)
     text = ["# What has to be believed", "",
             "Made by `tools/trusted.py`; the gate compares it with the sources.",
-            "The contracts of the exports (`crates/socketlemon/src/lib.rt`) and the top theorems that",
-            "[PROOFS](PROOFS.md) names rest on the definitions of these files and on no others.",
+            "The contracts of the exports (`crates/socketlemon/src/lib.rt`) and of the classroom",
+            "(`crates/lesson/src/show.rt`), and the top theorems that [PROOFS](PROOFS.md) names,",
+            "rest on the definitions of these files and on no others.",
             "None of them states a law: laws stand in files whose names end in `Laws`, and in crates of laws.",
             "The checker has proved that the code and the theorems meet these definitions;",
             "that they say what [PROTOCOL](PROTOCOL.md) says is for a reader to see.", "",

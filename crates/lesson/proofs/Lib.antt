@@ -1,0 +1,5 @@
+mod Rooms
+mod Settles
+mod Sends
+mod Lines
+mod Shows

@@ -1,5 +1,6 @@
 //! The command line.
 
+use crate::classroom::script::{Length, Letters};
 use crate::faults::Odds;
 use clap::{Args, Parser, Subcommand};
 use socketlemon::{Address, Rules, RulesError, Subnet};
@@ -11,12 +12,12 @@ use std::path::PathBuf;
 #[command(name = "socketlemon-link", version)]
 #[command(after_help = "Exit status: 0 arrived (read or received), 1 failed, 2 wrong usage.")]
 pub struct Cli {
-    /// Which side this is.
+    /// Which side this is, or what is shown.
     #[command(subcommand)]
     pub side: Side,
 }
 
-/// The sides, and their keys.
+/// The sides, their keys, and a lesson on both.
 #[derive(Debug, Subcommand)]
 pub enum Side {
     /// The side that sends surveys
@@ -25,6 +26,8 @@ pub enum Side {
     /// The side that receives surveys
     #[command(subcommand)]
     Office(OfficeCommand),
+    /// Show why a survey is slow: a tablet and an office over a link that loses and repeats packets as told
+    Classroom(ClassroomArgs),
     /// Show the key of a file and its address; the file is made if it is not there
     Key {
         /// The key file
@@ -110,6 +113,42 @@ pub struct ListenArgs {
     pub odds: OddsArgs,
 }
 
+/// Which lesson, and how it is shown.
+#[derive(Debug, Args)]
+#[command(group = clap::ArgGroup::new("lesson").required(true).args(["length", "file"]))]
+#[command(after_help = CLASSROOM_HELP)]
+pub struct ClassroomArgs {
+    /// The survey's length in bytes, at most 32500
+    #[arg(long, value_name = "N")]
+    pub length: Option<Length>,
+    /// What the link does with each packet of either side, in their order: D delivers it, L loses it,
+    /// R delivers it twice. At most 2000 letters; packets behind the last are delivered
+    #[arg(long, value_name = "DLR..", default_value = "", hide_default_value = true, requires = "length")]
+    pub letters: Letters,
+    /// A file with the length on one line and the letters on a second, as the program classroom reads it
+    #[arg(long, value_name = "FILE")]
+    pub file: Option<PathBuf>,
+    /// Write the lesson as a page for a browser, which needs no network
+    #[arg(long, value_name = "FILE.html")]
+    pub page: Option<PathBuf>,
+    /// The page's heading
+    #[arg(long, value_name = "TEXT", requires = "page", value_parser = title)]
+    pub title: Option<String>,
+    /// Print only the lines of the program classroom: round, state, pieces Started, Sent and Acked
+    #[arg(long, conflicts_with = "page")]
+    pub rows: bool,
+}
+
+const CLASSROOM_HELP: &str = "\
+The push is at 0 ms, and a round every 100 ms, 50 in all. In a round the tablet sends its init, or at most
+eight pieces, or, when every piece has its reply, its done; the office replies within the round.
+
+  socketlemon-link classroom --length 32500                           nothing is lost
+  socketlemon-link classroom --length 32500 --letters DDDLDDLDR       the fourth packet is lost, ..
+  socketlemon-link classroom --file lesson.txt --page lesson.html     as a page for the lesson
+
+Exit status: 0 shown, 1 a file cannot be read or written, 2 wrong usage or a script of another form.";
+
 /// A bad link, for trials; what this side sends goes through it.
 #[derive(Clone, Copy, Debug, Args)]
 #[command(next_help_heading = "A bad link, for trials; what this side sends goes through it")]
@@ -139,6 +178,14 @@ fn probability(text: &str) -> Result<f64, String> {
         .ok()
         .filter(|p| (0.0..=1.0).contains(p))
         .ok_or_else(|| "a probability is a number from 0 to 1".to_owned())
+}
+
+/// A heading. Control characters have no place in a page.
+fn title(text: &str) -> Result<String, String> {
+    match text.chars().any(char::is_control) {
+        true => Err("a heading is one line, without control characters".to_owned()),
+        false => Ok(text.to_owned()),
+    }
 }
 
 fn topic(text: &str) -> Result<String, String> {

@@ -19,6 +19,35 @@ const ACK: u8 = 0x01;
 /// The bytes of a done, and of its acknowledgement.
 pub const DONE_BYTES: usize = 52;
 
+/// The last byte of a chunk's index.
+const INDEX: usize = 19;
+
+/// What a packet brings, or what it acknowledges.
+#[derive(Clone, Copy, Debug, PartialEq, Eq)]
+pub enum Content {
+    /// The announcement of a survey.
+    Init,
+    /// The piece of this index.
+    Piece(usize),
+    /// The end of a survey, with its sum.
+    Done,
+    /// Something else, or nothing.
+    Other,
+}
+
+impl Content {
+    /// The content of a packet in its frame, by the first flag that fits.
+    pub fn of(frame: &[u8; FRAME]) -> Content {
+        match frame[FLAGS] {
+            flags if flags & INIT != 0 => Content::Init,
+            // an index that is kept is below 256
+            flags if flags & CHUNK != 0 => Content::Piece(usize::from(frame[INDEX])),
+            flags if flags & DONE != 0 => Content::Done,
+            _ => Content::Other,
+        }
+    }
+}
+
 /// Why a datagram is dropped before the library sees it.
 #[derive(Clone, Copy, Debug, PartialEq, Eq, PartialOrd, Ord)]
 pub enum Dropped {
@@ -88,7 +117,7 @@ impl Arrived {
 
     /// Whether it is a done, without ack.
     pub fn is_done(&self) -> bool {
-        self.frame[FLAGS] & (INIT | CHUNK | DONE | ACK) == DONE
+        Content::of(&self.frame) == Content::Done && self.frame[FLAGS] & ACK == 0
     }
 
     /// What acknowledges this packet if it is a done: its own first bytes with the ack flag.
@@ -147,5 +176,27 @@ mod tests {
         let dones: Vec<u8> = (0..=255).filter(is_done).collect();
         assert_eq!(dones.len(), 16, "the done flag, none of init, chunk and ack, any of the other four");
         assert!(dones.iter().all(|flags| flags & 0xd1 == 0x40));
+    }
+
+    #[test]
+    fn the_first_flag_that_fits_is_the_content() {
+        let of = |flags: u8| {
+            let mut frame = [0; FRAME];
+            frame[8] = flags;
+            frame[19] = 24;
+            Content::of(&frame)
+        };
+        for flags in [0x80, 0x81, 0x84, 0xd1, 0xff] {
+            assert_eq!(of(flags), Content::Init, "{flags:#04x}");
+        }
+        for flags in [0x10, 0x11, 0x50, 0x7f] {
+            assert_eq!(of(flags), Content::Piece(24), "{flags:#04x}");
+        }
+        for flags in [0x40, 0x41, 0x6d] {
+            assert_eq!(of(flags), Content::Done, "{flags:#04x}");
+        }
+        for flags in [0, 0x01, 0x08, 0x20, 0x2d] {
+            assert_eq!(of(flags), Content::Other, "{flags:#04x}");
+        }
     }
 }

@@ -1,10 +1,12 @@
 //! Surveys from a tablet to the office over UDP on IPv6: sockets, clocks and files around the `socketlemon` library.
 //!
 //! A datagram is a packet behind its from-address and its to-address. Both sides can be told to make the link bad, for trials.
+//! The classroom shows what a bad link does, without a socket.
 
 #![forbid(unsafe_code)]
 #![warn(missing_docs)]
 
+pub mod classroom;
 pub mod cli;
 pub mod counts;
 pub mod datagram;

@@ -1,10 +1,15 @@
-//! The commands `tablet send`, `office listen` and `key`.
+//! The commands `tablet send`, `office listen`, `classroom` and `key`.
 
 #![forbid(unsafe_code)]
 
 use clap::Parser;
 use socketlemon::Calendar;
-use socketlemon_link::cli::{self, Cli, ListenArgs, OfficeCommand, SendArgs, Side, TabletCommand};
+use socketlemon_link::classroom::lesson::Lesson;
+use socketlemon_link::classroom::script::Script;
+use socketlemon_link::classroom::{page, terminal};
+use socketlemon_link::cli::{
+    self, ClassroomArgs, Cli, ListenArgs, OfficeCommand, SendArgs, Side, TabletCommand,
+};
 use socketlemon_link::failure::Failure;
 use socketlemon_link::hours;
 use socketlemon_link::keys::{Key, Known};
@@ -19,6 +24,7 @@ fn main() -> ExitCode {
     let done = match Cli::parse().side {
         Side::Tablet(TabletCommand::Send(args)) => send(args),
         Side::Office(OfficeCommand::Listen(args)) => listen(args),
+        Side::Classroom(args) => classroom(args),
         Side::Key { file } => {
             Key::of_file(&file).map(|key| say(&format!("key {key}\naddress {}", key.address())))
         }
@@ -27,15 +33,20 @@ fn main() -> ExitCode {
         Ok(()) => ExitCode::SUCCESS,
         Err(failure) => {
             let _ = writeln!(std::io::stderr(), "socketlemon-link: {failure}");
-            ExitCode::FAILURE
+            ExitCode::from(failure.status())
         }
     }
 }
 
-/// Puts out a line at once. A reader that has gone away stops nothing.
+/// Puts out a line at once.
 fn say(line: &str) {
+    show(&format!("{line}\n"));
+}
+
+/// Puts out a text at once. A reader that has gone away stops nothing.
+fn show(text: &str) {
     let mut out = std::io::stdout();
-    let _ = writeln!(out, "{line}").and_then(|()| out.flush());
+    let _ = write!(out, "{text}").and_then(|()| out.flush());
 }
 
 fn send(args: SendArgs) -> Result<(), Failure> {
@@ -84,4 +95,27 @@ fn listen(args: ListenArgs) -> Result<(), Failure> {
         n => say(&format!("messages that go on from before: {n}")),
     }
     office.work(|line| say(&line))
+}
+
+fn classroom(args: ClassroomArgs) -> Result<(), Failure> {
+    let script = match (args.length, args.file) {
+        (Some(length), _) => Script { length, letters: args.letters },
+        (None, Some(file)) => Script::of_file(&file)?,
+        // the command line has one of them
+        (None, None) => return Err(Failure::input("neither --length nor --file")),
+    };
+    let lesson =
+        Lesson::of(&script).map_err(|refusal| Failure::new(format!("the library refuses: {refusal}")))?;
+    if args.rows {
+        show(&lesson.rows());
+        return Ok(());
+    }
+    show(&terminal::draw(&lesson));
+    if let Some(file) = args.page {
+        let title = args.title.unwrap_or_else(|| page::title(&lesson));
+        let bytes = page::write(&lesson, &title).map_err(|error| Failure::new(error.to_string()))?;
+        std::fs::write(&file, bytes).map_err(|error| Failure::file("write", &file, &error))?;
+        say(&format!("the page is in {}", file.display()));
+    }
+    Ok(())
 }

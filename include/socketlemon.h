@@ -97,10 +97,10 @@ socketlemon_answer socketlemon_push(uint8_t *send, size_t send_len, const uint8_
                                     const uint8_t *topic, size_t topic_len, const uint8_t *data, size_t data_len, uint64_t created,
                                     uint64_t try_ms, uint8_t *run, size_t run_len);
 
-/* Wakes a message: kind 1 sends what is due, if the calendar is open at `unix_ms`, and else does nothing; kind 2 lets the
- * deadline pass, and reads no calendar. Due is what `clock` says; hours go by `unix_ms` alone, milliseconds since 1970 in UTC.
- * Of the pieces that are due at most eight are sent: those never sent yet by index, then those sent longest ago. Call again for
- * the others, best when acknowledgements have come.
+/* Wakes a message: kind 1 sends what wants sending, if the calendar is open at `unix_ms`, and else does nothing; kind 2 lets
+ * the deadline pass, and reads no calendar. A piece is sent again when `clock` says that it is due; hours go by `unix_ms` alone,
+ * milliseconds since 1970 in UTC. At most eight pieces are sent: those never sent yet by index, then due ones, those sent
+ * longest ago first and equal ones by index. Call again for the others, best when acknowledgements have come.
  * A calendar is for each weekday from Monday on its opening and its closing minute (2 bytes each; 0 to 1,440, the closing one
  * not included; two zeros: closed all day), the offset of local time from UTC in minutes, plus 720 (2; 0 to 1,560), the number
  * of closed dates (1; 0 to 32), and for each its year (2; 1970 to 9999), month (1) and day (1). Numbers are big-endian. */

@@ -37,8 +37,8 @@ pub fn push(
     outbox::push::push(send, label, topic, bytes, created, try_ms, run)
 }
 
-// A wake of the message with that id: kind 1 sends what is due within the calendar's hours, kind 2 lets the
-// deadline pass. The clock is in milliseconds from any moment on, `unix_ms` in those since 1 January 1970, UTC.
+// A wake of the message with that id: kind 1 sends what wants sending, within the calendar's hours, kind 2 lets
+// the deadline pass. The clock is in milliseconds from any moment on, `unix_ms` in those since 1 January 1970, UTC.
 pub fn wake(
     send: &mut [u8],
     kind: u64,

@@ -83,7 +83,7 @@ pub extern "C" fn socketlemon_push(
     )
 }
 
-// A wake of a message: kind 1 sends what is due within the calendar's hours, kind 2 lets the deadline pass.
+// A wake of a message: kind 1 sends what wants sending, within the calendar's hours, kind 2 lets the deadline pass.
 #[no_mangle]
 pub extern "C" fn socketlemon_wake(
     send: &mut [u8],

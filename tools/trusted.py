@@ -24,6 +24,7 @@ THEOREMS = {
     ("ledger", "RepeatedLaws"): ["equal-init-row", "equal-init"],
     ("ledger", "BetweenLaws"): ["between-inits"],
     ("ledger", "RefusedLaws"): ["setup-refused", "packet-refused", "push-refused", "wake-refused", "report-refused", "take-refused"],
+    ("ledger", "CameLaws"): ["kept"],
     ("ledger", "UntouchedLaws"): ["send-untouched", "recv-untouched"],
     ("address", "AddressLaws"): ["address-refused"],
     ("machine", "StarredLaws"): ["starred-hold"],

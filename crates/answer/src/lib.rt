@@ -66,6 +66,8 @@ pub const UNSOUND_STORE: u64 = 25;
 
 pub const BAD_CALENDAR: u64 = 26;
 
+pub const SHORT_FRAME: u64 = 27;
+
 // A refusal: nothing is sent, nobody wakes.
 pub fn refuse(number: u64) -> Answer
     ensures { λ r. ⌜ r ≡ bare number ⌝ }

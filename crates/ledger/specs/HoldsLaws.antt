@@ -7,10 +7,11 @@ use mathlib.Core.Bool.{true, cond}
 use mathlib.Core.List.{List, [], _∷_, _++_}
 use lib.ListN.{length}
 use lib.Dec.{eqb}
-use borrow.Author.Tests.{eqb-true, eqb-false}
+use borrow.Author.Tests.{eqb-true, eqb-false, leb-true}
 use Rattle.octets.specs.BoolsLaws.{cases}
 use Rattle.octets.specs.Lists.{All}
 use Rattle.machine.specs.Limits.{mostCells}
+use Rattle.packet.specs.Frame.{needed}
 use Rattle.machine.specs.Codes.{roleReceive, roleSend}
 use Rattle.machine.specs.Values.{Store, sameKey}
 use Rattle.machine.specs.Layout.{encode, decode}
@@ -21,7 +22,7 @@ use Rattle.machine.specs.Refusals.{refusal}
 use Rattle.machine.specs.Receive.{recKey, takeStep}
 use Rattle.machine.specs.Typed.{TypedPacket}
 use Rattle.machine.specs.Setup.{setupOf}
-use Rattle.machine.specs.Packet.{Packet, kind, frameBytes, recvStep, sendStep, packetRow}
+use Rattle.machine.specs.Packet.{Packet, kind, recvStep, sendStep, packetRow}
 use Rattle.machine.specs.Push.{pushRow}
 use Rattle.machine.specs.Wake.{wakeRow}
 use Rattle.machine.specs.Take.{takeRow, takeOf}
@@ -94,7 +95,7 @@ module _ (s : Stores) (l : Ledger) (h : Holds s l) where
       let t : l .sendRole ≡ roleSend = sound-role (l .sendRole) (s .send) (h .send) roleSend (f .0 .1 .0) in
       let v : Valid roleReceive R = rw r at (h .recv .valid) in
       let w : Valid roleSend S = rw t at (h .send .valid) in
-      let v′ = recv-valid p R S y (eqb-true (length (p .frame)) frameBytes (f .0 .1 .1 .0)) v (f .1) in
+      let v′ = recv-valid p R S y (leb-true (needed (kind p) (p .frame)) (length (p .frame)) (f .0 .1 .1 .1 .0)) v (f .1) in
       rw e (record {
         recv = rw r (valid-stored roleReceive (recvStep (kind p) p R) v′);
         send = rw t (valid-stored roleSend (sendStep (kind p) p S) (send-valid p R S y w (f .1)));

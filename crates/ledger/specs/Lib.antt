@@ -5,6 +5,7 @@ pub mod Statement
 pub mod Made
 pub mod Only
 pub mod Between
+pub mod Came
 -- refusals change nothing
 pub mod RefusedLaws
 -- demand 3
@@ -23,6 +24,8 @@ pub mod OwnLaws
 -- an init that comes again, and what is kept until it does
 pub mod RepeatedLaws
 pub mod BetweenLaws
+-- what is kept of a chunk is what came
+pub mod CameLaws
 -- a store that a packet does not concern
 pub mod UntouchedLaws
 -- worked runs

@@ -7,11 +7,11 @@ use mathlib.Core.Logic.{_↔_}
 use lib.ListN.{length, getD}
 use Rattle.octets.specs.Octets.{put}
 use Rattle.packet.specs.declared.header.Kind.the-variants.{Done}
-use Rattle.packet.specs.Frame.{doneCount, doneSum}
+use Rattle.packet.specs.Frame.{doneEnd, doneCount, doneSum, largestFrame}
 use Rattle.machine.specs.Limits.{recBytes}
 use Rattle.machine.specs.Codes.{roleReceive, roleSend, yes}
 use Rattle.machine.specs.Layout.{labelOf, topicSizeAt}
-use Rattle.machine.specs.Packet.{Packet, kind, asked, packetRoom, frameBytes}
+use Rattle.machine.specs.Packet.{Packet, kind, asked, packetRoom}
 use Rattle.machine.specs.Take.{takeRoom, takenRoom, takeOf}
 use Rattle.ledger.specs.Run.{Stores, packet, takeWhole, answer}
 use Rattle.ledger.specs.Ledger.{Page, Due, Ledger, wholeOf}
@@ -19,6 +19,10 @@ use Rattle.ledger.specs.Ledger.{Page, Due, Ledger, wholeOf}
 -- "In role means roles 1 and 2"
 abbrev pub InRole : Ledger → Type 0
 InRole l = (l .recvRole ≡ roleReceive) × (l .sendRole ≡ roleSend)
+
+-- "A full frame of a done is then one of 52 to 1,400 bytes"
+abbrev pub FullDone : List ℕ → Type 0
+FullDone f = (doneEnd ≤ length f) × (length f ≤ largestFrame)
 
 -- what take puts out for a page: a record's 328 bytes with the page's fields at their places, then its pieces joined by index
 pub record Given (g : Page) (before after : List ℕ) : Type 0 where
@@ -30,7 +34,7 @@ pub record Given (g : Page) (before after : List ℕ) : Type 0 where
 
 pub record Demand3 (s : Stores) (l : Ledger) : Type 0 where
   -- "a done after it, with a full frame and outgoing buffer and both stores in role, is acknowledged exactly when its id has an open page .. and .."
-  pub doneBy : (p : Packet) (out : List ℕ) → InRole l → kind p ≡ Done → length (p .frame) ≡ frameBytes → packetRoom ≤ length out
+  pub doneBy : (p : Packet) (out : List ℕ) → InRole l → kind p ≡ Done → FullDone (p .frame) → packetRoom ≤ length out
       → (answer (packet p out) s ≡ 0)
       ↔ ((g : Page) × (l .book .pages (asked p) ≡ some g) × Due g (doneCount (p .frame)) (doneSum (p .frame)) (yes (p .known)))
   -- "Take in role answers 23 exactly when the row is empty"

@@ -5,10 +5,10 @@ use mathlib.Core.Path.{_≡_, refl, ap, _∙_}
 use mathlib.Core.Bool.{Bool, true, not, cond}
 use mathlib.Core.List.{List, [], _∷_, _++_}
 use lib.ListN.{length, getD, take, drop, replicate, length-append, length-replicate, List·getD-append}
-use lib.Seq.{take-at, take-all, getD-at}
+use lib.Seq.{take-at, drop-at, getD-at}
 use lib.Bits.{bitAnd, bitOr, or-step, and-mask}
 use lib.Dec.{eqb}
-use borrow.Author.Tests.{ne-eqb}
+use borrow.Author.Tests.{ne-eqb, eqb-true, leb-true}
 use Rattle.octets.specs.BoolsLaws.{cases}
 use Rattle.octets.specs.Lists.{All}
 use Rattle.octets.specs.Octets.{part, put, be, num, capacity}
@@ -16,14 +16,18 @@ use Rattle.octets.specs.NumbersLaws.{length-be, num-append, num-be}
 use Rattle.octets.specs.PartsLaws.{length-part, length-part-le, length-put}
 use Rattle.packet.specs.declared.header.Kind.{Kind}
 use Rattle.packet.specs.declared.header.Kind.the-variants.{Init, Chunk, Done, Read, Aborted, AckInit, AckChunk, AckDone, Nothing}
-use Rattle.packet.specs.Frame.{has, ackFlag, initFlag, chunkFlag, doneFlag, ackKind, kindOf, flagsOf, idOf}
+use Rattle.packet.specs.Frame.{has, ackFlag, initFlag, chunkFlag, doneFlag, ackKind, kindOf, flagsOf, idOf, needed}
+use Rattle.packet.specs.FieldsLaws.{byte-is}
 use Rattle.packet.specs.Outgoing.{entry, replyPacket}
+use Rattle.machine.specs.Layout.{decode}
 use Rattle.machine.specs.Refusals.{refusal}
-use Rattle.machine.specs.Packet.{Packet, kind, replyBytes, replied, kindOut, arrival, packetRow, packetAt, packetOf, packetRoom}
+use Rattle.machine.specs.Packet.{Packet, kind, replyBytes, replied, kindOut, kindRow, arrival, packetFront, packetRow, packetAt, packetOf, packetRoom}
+use Rattle.machine_steps.specs.Refusals.{refusal-front}
+use Rattle.machine_steps.specs.Frames.{reply-came}
 use Rattle.link.specs.Entries.{filled, entryEnd, entriesOf, fromOf, toOf, frameOf}
 use Rattle.link.specs.EntriesLaws.{entries-one, entries-none}
 use Rattle.link.specs.Stored.{stored}
-use Rattle.link.specs.StoredLaws.{skip, stored-length}
+use Rattle.link.specs.StoredLaws.{stored-length}
 use Rattle.lesson.specs.Room.{Node, openRules, knownKey, arrived, replyOf}
 use Rattle.lesson.specs.Steps.{asks}
 
@@ -54,7 +58,7 @@ ack-set f =
     odd : (f : ℕ) → bitOr f 1 % 2 ≡ 1
     odd f = let b = or-step f 1 in omega arith
 
-module _ (to from f : List ℕ) (n : ℕ) (ht : length to ≡ 16) (hf : length from ≡ 16) (hn : length f ≡ 1400) (low : 9 ≤ n) (high : n ≤ 52) where
+module _ (to from f : List ℕ) (n : ℕ) (ht : length to ≡ 16) (hf : length from ≡ 16) (hn : n ≤ length f) (low : 9 ≤ n) (high : n ≤ 52) where
   length-reply : length (replyPacket n f) ≡ n
   unfolding replyPacket
   length-reply =
@@ -98,15 +102,12 @@ module _ (to from f : List ℕ) (n : ℕ) (ht : length to ≡ 16) (hf : length f
       omega (arith, read, length-append (size ++ to ++ from) (replyPacket n f), length-head)
 
   reply-asks : asks (entry to from (replyPacket n f)) ≡ 0
-  unfolding entry part put
+  unfolding entry
   reply-asks =
       let p : List ℕ = replyPacket n f in
-      let here : part (be 2 (length p) ++ to ++ from ++ p) 34 1400 ≡ p = skip (be 2 (length p) ++ to ++ from) p 34 1400 length-head
-      ∙ take-all 1400 p (omega (arith, length-reply)) in
-      let flags : getD (filled 1400 p) 8 0 ≡ bitOr (flagsOf f) ackFlag = List·getD-append p (drop (0 + length p) (replicate 1400 0)) 0 8
-      (omega (arith, length-reply)) ∙ reply-flags in
-      ap (λ (b : Bool). cond b 0 1) (ap (λ (l : List ℕ). has (getD (filled 1400 l) 8 0) ackFlag) here ∙ ap (λ (x : ℕ). has x ackFlag) flags ∙ ack-set
-      (flagsOf f))
+      let here : drop 34 (be 2 (length p) ++ to ++ from ++ p) ≡ p = drop-at (be 2 (length p) ++ to ++ from) p 34 length-head in
+      let flags : flagsOf p ≡ bitOr (flagsOf f) ackFlag = byte-is p 8 (omega (arith, length-reply)) ∙ reply-flags in
+      ap (λ (b : Bool). cond b 0 1) (ap (λ (l : List ℕ). has (flagsOf l) ackFlag) here ∙ ap (λ (x : ℕ). has x ackFlag) flags ∙ ack-set (flagsOf f))
 
   one : Answered 1 (entry to from (replyPacket n f))
   unfolding stored
@@ -117,13 +118,13 @@ module _ (to from f : List ℕ) (n : ℕ) (ht : length to ≡ 16) (hf : length f
 
 -- ---- a packet's run
 
--- a frame and addresses that are whole
-pub record Whole (p : Packet) : Type 0 where
+-- addresses are whole, and the bytes that its reply keeps came
+pub record Whole (k : Kind) (p : Packet) : Type 0 where
   pub to : length (p .to) ≡ 16
   pub from : length (p .from) ≡ 16
-  pub frame : length (p .frame) ≡ 1400
+  pub frame : replyBytes k ≤ length (p .frame)
 
-by-kind : (k : Kind) (p : Packet) → Whole p → Answered 1 (kindOut k p)
+by-kind : (k : Kind) (p : Packet) → Whole k p → Answered 1 (kindOut k p)
 by-kind Init p w = one (p .to) (p .from) (p .frame) 21 (w .to) (w .from) (w .frame) (omega arith) (omega arith)
 by-kind Chunk p w = one (p .to) (p .from) (p .frame) 36 (w .to) (w .from) (w .frame) (omega arith) (omega arith)
 by-kind Done p w = one (p .to) (p .from) (p .frame) 52 (w .to) (w .from) (w .frame) (omega arith) (omega arith)
@@ -140,7 +141,7 @@ ack-silent f =
     cases (has f initFlag) (λ a. rw a refl)
     (λ a. rw a (cases (has f chunkFlag) (λ b. rw b refl) (λ b. rw b (cases (has f doneFlag) (λ c. rw c refl) (λ c. rw c refl)))))
 
-by-flags : (p : Packet) → Whole p → Answered (cond (has (flagsOf (p .frame)) ackFlag) 0 1) (kindOut (kind p) p)
+by-flags : (p : Packet) → Whole (kind p) p → Answered (cond (has (flagsOf (p .frame)) ackFlag) 0 1) (kindOut (kind p) p)
 unfolding kindOf
 by-flags p w =
     cases (has (flagsOf (p .frame)) ackFlag)
@@ -154,17 +155,27 @@ at-start : (b v : List ℕ) → take (length v) (put b 0 v) ≡ v
 unfolding put
 at-start b v = take-at v (drop (0 + length v) b) (length v) refl
 
-by-number : (m k : ℕ) (p : Packet) (recv send out : List ℕ) → Answered k (kindOut (kind p) p) → Answered k (replyOf (packetAt m p recv send out))
-by-number m k p recv send out h = cases (eqb m 0) (λ e. rw (e, at-start out (kindOut (kind p) p)) h) (λ e. rw e (none k))
+by-number : (m k : ℕ) (p : Packet) (recv send out : List ℕ) → (m ≡ 0 → Answered k (kindOut (kind p) p))
+    → Answered k (replyOf (packetAt m p recv send out))
+by-number m k p recv send out h = cases (eqb m 0) (λ e. rw (e, at-start out (kindOut (kind p) p)) (h (eqb-true m 0 e))) (λ e. rw e (none k))
+
+-- a packet that is not refused has all that its kind needs, so the bytes of its reply
+kept-came : (p : Packet) (recv send out : List ℕ) → refusal (packetRow p recv send out) ≡ 0 → replyBytes (kind p) ≤ length (p .frame)
+unfolding packetRow
+kept-came p recv send out e =
+    let f = p .frame in
+    let clear = refusal-front (packetFront p recv send out) (kindRow (kind p) p (decode recv) (decode send)) refl e .0 in
+    omega (arith, reply-came (kind p) f, leb-true (needed (kind p) f) (length f) (clear .1 .1 .1 .0))
 
 pub answered : (n : Node) (e : List ℕ) → Answered (asks e) (replyOf (arrived n e))
 unfolding arrived packetOf
 answered n e =
     let p : Packet = arrival (frameOf e) (fromOf e) (toOf e) openRules knownKey in
-    by-number (refusal (packetRow p (n .recv) (n .send) (replicate packetRoom 0))) (asks e) p (n .recv) (n .send) (replicate packetRoom 0)
-    (by-flags p
+    let out : List ℕ = replicate packetRoom 0 in
+    by-number (refusal (packetRow p (n .recv) (n .send) out)) (asks e) p (n .recv) (n .send) out
+    (λ z. by-flags p
     (record {
       to = length-filled 16 (part e 18 16) (length-part-le e 18 16);
       from = length-filled 16 (part e 2 16) (length-part-le e 2 16);
-      frame = length-filled 1400 (part e 34 1400) (length-part-le e 34 1400);
+      frame = kept-came p (n .recv) (n .send) out z;
     }))

@@ -57,7 +57,7 @@ fn arrive(recv: &mut [u8], send: &mut [u8], e: &[u8], run: &mut [u8; 86]) -> usi
     let from = entry::from_of(e);
     let to = entry::to_of(e);
     let rules = [0u8; 1];
-    let a = message::packet(recv, send, &frame, &from, &to, &rules, 1, run);
+    let a = message::packet(recv, send, frame, &from, &to, &rules, 1, run);
     a.run as usize
 }
 

@@ -34,6 +34,13 @@ past s a h = sym (List·getD-eq-default s 0 h)
 
 -- ---- a part, cut at the end
 
+pub drop-past : (s : List ℕ) (a : ℕ) → length s < a → take 0 s ≡ drop a s
+drop-past s a h = sym (drop-of-length-le s {i = a} (omega arith) ∙ none s)
+  where
+    none : (l : List ℕ) → [] ≡ take 0 l
+    none [] = refl
+    none (x ∷ l) = refl
+
 pub part-past : (s : List ℕ) (a n : ℕ) → length s < a → take 0 s ≡ part s a n
 unfolding part
 part-past s a n h = sym (ap (take n) (drop-of-length-le s {i = a} (omega arith)) ∙ nil n)

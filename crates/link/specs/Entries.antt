@@ -1,10 +1,9 @@
--- The packets of a run: PROTOCOL, "Calls and answers". Any bytes have entries; past their end every byte counts as 0.
+-- The packets of a run: PROTOCOL, "Calls and answers". Any bytes have entries; of addresses that are cut off, what is missing counts as 0.
 use Prim.Native.Nat.{ℕ, zero, suc, _+_}
 use mathlib.Core.List.{List, [], _∷_}
 use lib.ListN.{length, take, drop, replicate}
 use Rattle.octets.specs.Octets.{part, put, num}
 use Rattle.packet.specs.Frame.{addressSize}
-use Rattle.machine.specs.Packet.{frameBytes}
 
 -- "each after its byte count (2 bytes), from address (16) and to address (16)"
 abbrev pub countBytes : ℕ
@@ -51,5 +50,6 @@ fromOf e = filled addressSize (part e fromAt addressSize)
 abbrev pub toOf : List ℕ → List ℕ
 toOf e = filled addressSize (part e toAt addressSize)
 
+-- the frame has the bytes that the entry has
 abbrev pub frameOf : List ℕ → List ℕ
-frameOf e = filled frameBytes (part e packetAt frameBytes)
+frameOf e = drop packetAt e

@@ -1,5 +1,5 @@
 // The entries of a run: where the first ends, and an entry's parts as the packet call takes them.
-// Any bytes will do: what is missing counts as 0.
+// Any bytes will do: what is missing of an address counts as 0, and a frame is what is there.
 
 use octets::copy_in;
 ghost use mathlib.Core.Path.{_≡_};
@@ -16,8 +16,6 @@ const TO: usize = 18;
 const PACKET: usize = 34;
 
 const ADDRESS: usize = 16;
-
-const FRAME: usize = 1400;
 
 // The byte at a, 0 past the end.
 fn byte(s: &[u8], a: usize) -> usize
@@ -42,7 +40,7 @@ pub fn first_end(run: &[u8]) -> usize
 
 // At most n bytes from a on.
 fn part(s: &[u8], a: usize, n: usize) -> &[u8]
-    requires { ⌜ n ≤ 1400 ⌝ }
+    requires { ⌜ n ≤ 16 ⌝ }
     ensures { λ r. ⌜ now r ≡ part (now (s .entry)) a n ⌝ }
 {
     if a > s.len() {
@@ -73,11 +71,12 @@ pub fn to_of(e: &[u8]) -> [u8; 16]
     out
 }
 
-// The packet, at the start of a frame.
-pub fn frame_of(e: &[u8]) -> [u8; 1400]
-    ensures { λ r. ⌜ r ≡ frameOf (now (e .entry)) ⌝ }
+// The packet, as the frame that came.
+pub fn frame_of(e: &[u8]) -> &[u8]
+    ensures { λ r. ⌜ now r ≡ frameOf (now (e .entry)) ⌝ }
 {
-    let mut out = [0u8; 1400];
-    copy_in(&mut out, 0, part(e, PACKET, FRAME));
-    out
+    if e.len() < PACKET {
+        return &e[..0];
+    }
+    &e[PACKET..]
 }

@@ -83,6 +83,9 @@ unsoundStore = 25
 abbrev pub badCalendar : ℕ
 badCalendar = 26
 
+abbrev pub shortFrame : ℕ
+shortFrame = 27
+
 -- ---- marks, roles, kinds, states
 
 -- a number that means yes or no is yes when it is not 0

@@ -25,6 +25,7 @@ pub mod Typed
 pub mod Valid
 pub mod Samples
 pub mod Starred
+pub mod FrontLaws
 pub mod StarredLaws
 pub mod WorkedLaws
 pub mod TabletLaws

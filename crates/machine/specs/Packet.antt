@@ -14,11 +14,12 @@ use Rattle.topic.specs.Book.{wellFormed, admits}
 use Rattle.packet.specs.declared.header.Kind.{Kind}
 use Rattle.packet.specs.declared.header.Kind.the-variants.{Init, Chunk, Done, Read, Aborted, AckInit, AckChunk, AckDone, Nothing}
 use Rattle.packet.specs.Frame.{has, replyFlag, kindOf, idOf, flagsOf, initLength, initTopic, chunkIndex, chunkOffset, chunkSize, piece, doneCount, doneSum}
+use Rattle.packet.specs.Frame.{isFrame, isEnough}
 use Rattle.packet.specs.Outgoing.{entry, replyPacket, initReply, chunkReply, doneReply}
 use Rattle.machine.specs.Limits.{longest, leastPiece, topOf}
 use Rattle.machine.specs.Codes.{roleReceive, roleSend, stateInit, stateInProgress, stateReceived, stateRead, badFrame, shortOutput, badRules}
 use Rattle.machine.specs.Codes.{closedTopic, alreadyWhole, tooLong, noRecord, pastEnd, highIndex, shortPiece, noCell, wrongCount, gap}
-use Rattle.machine.specs.Codes.{wrongTotal, wrongSum, noKey, wrongState, noSuchPiece, noWork, unsoundStore, yes}
+use Rattle.machine.specs.Codes.{wrongTotal, wrongSum, noKey, wrongState, noSuchPiece, noWork, unsoundStore, shortFrame, yes}
 use Rattle.machine.specs.Values.{Label, Rec, Store, Key}
 use Rattle.machine.specs.Layout.{encode, decode}
 use Rattle.machine.specs.Sound.{sound, sizes}
@@ -205,16 +206,13 @@ kindWake Nothing = 0
 abbrev pub packetRoom : ℕ
 packetRoom = 86
 
--- row 1: a frame's bytes
-abbrev pub frameBytes : ℕ
-frameBytes = 1400
-
--- packet 25, 1, 20, 2
+-- packet 25, 1, 27, 20, 2
 abbrev pub packetFront : Packet → List ℕ → List ℕ → List ℕ → Refusals
 packetFront p recv send out =
     (sound roleReceive recv, unsoundStore)
     ∷ (sound roleSend send, unsoundStore)
-    ∷ (eqb (length (p .frame)) frameBytes, badFrame)
+    ∷ (isFrame (p .frame), badFrame)
+    ∷ (isEnough (kind p) (p .frame), shortFrame)
     ∷ (isKind (kind p), noWork)
     ∷ (leb packetRoom (length out), shortOutput)
     ∷ []

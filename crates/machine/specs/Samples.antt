@@ -1,5 +1,6 @@
--- Frames of 1,400 bytes, with addresses of 16, and an office that hears them: what the starred values and the worked runs are made of.
-use Prim.Native.Nat.{ℕ, _+_, _-_}
+-- Frames of the bytes that their packets need, with addresses of 16, and an office that hears them: what the starred values and the worked runs are
+-- made of.
+use Prim.Native.Nat.{ℕ, _+_}
 use mathlib.Core.Bool.{cond}
 use mathlib.Core.List.{List, [], _∷_, _++_}
 use lib.ListN.{length, replicate}
@@ -11,31 +12,27 @@ use Rattle.machine.specs.Codes.{roleReceive, roleSend}
 use Rattle.machine.specs.Values.{Store}
 use Rattle.machine.specs.Sound.{fresh}
 use Rattle.machine.specs.Refusals.{refusal}
-use Rattle.machine.specs.Packet.{Packet, frameBytes, kind, kindRow, recvStep}
+use Rattle.machine.specs.Packet.{Packet, kind, kindRow, recvStep}
 
 -- ---- packets
 
 unfoldable pub id : List ℕ
 id = 1 ∷ 2 ∷ 3 ∷ 4 ∷ 5 ∷ 6 ∷ 7 ∷ 8 ∷ []
 
--- a packet filled up to a frame
-unfoldable pub frame : List ℕ → List ℕ
-frame l = l ++ replicate (frameBytes - length l) 0
-
--- the init of a survey of n bytes, with the reply flag, so that no rule book is read
+-- the init of a survey of n bytes without a topic, with the reply flag, so that no rule book is read
 unfoldable pub init : ℕ → List ℕ
-init n = frame (header id (initFlag + replyFlag) ++ be 8 n)
+init n = header id (initFlag + replyFlag) ++ be 8 n ++ (0 ∷ [])
 
 -- the init of another survey of n bytes under the same id, about a topic of one byte
 unfoldable pub topic : List ℕ
 topic = 5 ∷ []
 
 unfoldable pub another : ℕ → List ℕ
-another n = frame (header id (initFlag + replyFlag) ++ be 8 n ++ (length topic ∷ topic))
+another n = header id (initFlag + replyFlag) ++ be 8 n ++ (length topic ∷ topic)
 
 -- a chunk
 unfoldable pub chunk : ℕ → ℕ → List ℕ → List ℕ
-chunk index offset bytes = frame (chunkPacket id index offset bytes)
+chunk index offset bytes = chunkPacket id index offset bytes
 
 -- ---- the office
 

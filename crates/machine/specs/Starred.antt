@@ -1,14 +1,15 @@
 -- The starred values of PROTOCOL, "Domain and values", as one table of numbers that the definitions give and numbers that they should give. An office of
--- two cells hears full frames; StarredLaws has the statement that covers the table.
+-- two cells hears frames of the bytes that they need; StarredLaws has the statement that covers the table.
 use Prim.Native.Nat.{ℕ}
-use mathlib.Core.List.{List, [], _∷_}
+use mathlib.Core.List.{List, [], _∷_, _++_}
 use mathlib.Core.Option.{Option, none, some}
 use lib.ListN.{getD, replicate}
 use Rattle.octets.specs.Bools.{one}
+use Rattle.octets.specs.Octets.{be}
 use Rattle.packet.specs.declared.header.Kind.{Kind}
 use Rattle.packet.specs.declared.header.Kind.the-variants.{Init, Chunk, Done, Read, Aborted, AckInit, AckChunk, AckDone, Nothing}
-use Rattle.packet.specs.Frame.{kindOf}
-use Rattle.packet.specs.Outgoing.{donePacket}
+use Rattle.packet.specs.Frame.{chunkFlag, kindOf, needed}
+use Rattle.packet.specs.Outgoing.{header, donePacket}
 use Rattle.machine.specs.Limits.{topOf}
 use Rattle.machine.specs.Codes.{pastEnd, shortPiece, tooLong, wrongCount, pieceSent}
 use Rattle.machine.specs.Values.{Rec}
@@ -16,7 +17,7 @@ use Rattle.machine.specs.Find.{isSome}
 use Rattle.machine.specs.Pieces.{pieceAt}
 use Rattle.machine.specs.Receive.{found}
 use Rattle.machine.specs.Choice.{isDue}
-use Rattle.machine.specs.Samples.{id, frame, init, another, chunk, Seen, hear, opened}
+use Rattle.machine.specs.Samples.{id, init, another, chunk, Seen, hear, opened}
 
 -- ---- what an office answers and holds
 
@@ -62,7 +63,7 @@ restarted = hear (another 500) (pieced 500 1 250 250)
 
 -- a done of a count, after a piece of no bytes at index 0
 abbrev pub counted : ℕ → Seen
-counted count = hear (frame (donePacket id count (replicate 32 0))) (pieced 0 0 0 0)
+counted count = hear (donePacket id count (replicate 32 0)) (pieced 0 0 0 0)
 
 -- 1 where a flag byte is that of an init
 abbrev pub isInit : Kind → ℕ
@@ -75,6 +76,10 @@ isInit AckInit = 0
 isInit AckChunk = 0
 isInit AckDone = 0
 isInit Nothing = 0
+
+-- the fields of a chunk with a size field
+abbrev pub sized : ℕ → List ℕ
+sized n = header id chunkFlag ++ be 8 0 ++ be 8 0 ++ be 8 n
 
 -- 1 where a piece sent at 1,000 is due
 abbrev pub dueAt : ℕ → ℕ
@@ -111,6 +116,9 @@ starred =
     ∷ value (slots 32500) 25 ∷ value (topOf 32500) 129 ∷ value (latest (arriving 32500)) 0 ∷ value (latest (arriving 32501)) tooLong
     -- length 1,300, offset 1, size 1,300: 9
     ∷ value (latest (pieced 1300 0 1 1300)) pastEnd
+    -- needed: an init 21 and its topic; a chunk 36 and its size field, 2^64 − 1 too; an acknowledgement of it 36
+    ∷ value (needed Init (init 500)) 21 ∷ value (needed Init (another 500)) 22 ∷ value (needed Chunk (sized 1364)) 1400
+    ∷ value (needed Chunk (sized 18446744073709551615)) 18446744073709551651 ∷ value (needed AckChunk (sized 18446744073709551615)) 36
     -- flags 0x90: init
     ∷ value (isInit (kindOf 0x90)) 1
     -- stamp 1,000: due at 1,100, not 1,099 or 900

@@ -13,13 +13,13 @@ use Rattle.machine.specs.Refusals.{refusal}
 use Rattle.machine.specs.Pieces.{putPiece}
 use Rattle.machine.specs.Receive.{initAt, chunkAt}
 use Rattle.machine.specs.Packet.{kindRow, recvStep, tooShort}
-use Rattle.machine.specs.Samples.{id, frame, topic, init, another, chunk, address, hear, opened}
+use Rattle.machine.specs.Samples.{id, topic, init, another, chunk, address, hear, opened}
 use Rattle.machine.specs.Starred.{Value, starred}
 
 pub starred-hold : All (λ (v : Value). v .gives ≡ v .should) starred
-unfolding starred id frame topic init another chunk address hear opened part be num same header chunkPacket donePacket kindOf sameKey equalInFive rise sizes find
+unfolding starred id topic init another chunk address hear opened part be num same header chunkPacket donePacket kindOf sameKey equalInFive rise sizes find
     swap without refusal putPiece initAt chunkAt kindRow recvStep tooShort
 starred-hold =
     refl & refl & refl & refl & refl & refl & refl & refl & refl & refl & refl & refl & refl & refl & refl & refl
     & refl & refl & refl & refl & refl & refl & refl & refl & refl & refl & refl & refl & refl & refl & refl & refl
-    & refl & tt
+    & refl & refl & refl & refl & refl & refl & tt

@@ -30,7 +30,7 @@ use Rattle.machine.specs.Packet.{Packet, kind, kindRow, sendStep, kindWa
 use Rattle.machine.specs.Push.{Push, pushLabel, pushRoom, pushTests}
 use Rattle.machine.specs.Wake.{Wake, sendWake, deadlineWake, waking, wakeRoom, wakeTests, wakeRun, wakePieces, wakeStep}
 use Rattle.machine.specs.Report.{reported}
-use Rattle.machine.specs.Samples.{id, frame, address, from}
+use Rattle.machine.specs.Samples.{id, address, from}
 
 -- ---- calendars
 
@@ -60,16 +60,16 @@ thursdays = hours (shut ++ shut ++ shut ++ window 600 660 ++ shut ++ shut ++ shu
 
 -- acknowledgements of an init, a chunk and a done, and a read
 unfoldable pub ackInit : List ℕ
-ackInit = frame (header id (initFlag + ackFlag))
+ackInit = header id (initFlag + ackFlag)
 
 unfoldable pub ackChunk : ℕ → List ℕ
-ackChunk index = frame (header id (chunkFlag + ackFlag) ++ be 8 index)
+ackChunk index = header id (chunkFlag + ackFlag) ++ be 8 index ++ replicate 16 0
 
 unfoldable pub ackDone : List ℕ
-ackDone = frame (header id (doneFlag + ackFlag))
+ackDone = header id (doneFlag + ackFlag)
 
 unfoldable pub read : List ℕ
-read = frame (header id readFlag)
+read = header id readFlag
 
 -- what a call answers (number, wake mark and piece packets), what it puts out, and the send store that it leaves
 pub record Told : Type 0 where
@@ -188,7 +188,7 @@ pub tablet-starts : (pushes survey (fresh roleSend 3) ≡ answers 0 0 (sends (in
     × (wakes sendWake 900 (pushed stateInit) ≡ answers 0 0 (sends (initPacket id false 1550 topic)) (pushed stateInit))
     × (reports (pushed stateInit) ≡ says stateInit 0 0 0) × (hears (ackChunk 0) (pushed stateInit) ≡ refuses wrongState (pushed stateInit))
     × (hears ackInit (pushed stateInit) ≡ answers 1 0 [] (pushed stateInProgress)) × (hears ackInit (pushed stateInProgress) ≡ refuses wrongState (pushed stateInProgress))
-unfolding office topic piece0 piece1 survey id frame address ackInit ackChunk pushes hears wakes reports part be num same header kindOf sameKey
+unfolding office topic piece0 piece1 survey id address ackInit ackChunk pushes hears wakes reports part be num same header kindOf sameKey
     rise find swap without refusal cutPieces changeAt pushStep only byStamp sentPieces chunksOut wakeOut woken kindRow sendStep kindWake wakeRun wakePieces wakeStep wakes-with wakes-at hours
     always wellFormed isOpen every counted times reported capacity
 tablet-starts = (refl, refl, refl, refl, refl, refl)
@@ -200,7 +200,7 @@ pub tablet-sends : (reports (pushed stateInProgress) ≡ says stateInProgress 2 
     × (hears (ackChunk 1) sent ≡ answers 1 0 [] (partly 1000)) × (reports (partly 1000) ≡ says stateInProgress 0 1 1)
     × (wakes sendWake 1100 (partly 1000) ≡ answers 0 1 (sends (chunkPacket id 0 0 piece0) ++ []) (partly 1100))
     × (hears (ackChunk 0) (partly 1100) ≡ answers 1 0 [] (acked stateInProgress))
-unfolding office topic piece0 piece1 id frame address ackChunk hears wakes reports part be num same header kindOf sameKey rise find swap without
+unfolding office topic piece0 piece1 id address ackChunk hears wakes reports part be num same header kindOf sameKey rise find swap without
     refusal changeAt only insert byStamp sentPieces chunksOut wakeOut woken kindRow sendStep kindWake wakeRun wakePieces wakeStep wakes-with wakes-at hours always wellFormed isOpen every
     counted times reported joined entry chunkPacket
 tablet-sends = (refl, refl, refl, refl, refl, refl, refl, refl, refl)
@@ -210,7 +210,7 @@ pub tablet-ends : (wakes sendWake 1200 (acked stateInProgress) ≡ answers 0 0 (
     × (hears read (acked stateInProgress) ≡ refuses wrongState (acked stateInProgress)) × (hears ackDone (acked stateInProgress) ≡ answers 0 0 [] (acked stateReceived))
     × (wakes sendWake 1300 (acked stateReceived) ≡ answers 0 0 [] (acked stateReceived)) × (hears read (acked stateReceived) ≡ answers 0 0 [] (acked stateRead))
     × (reports (acked stateRead) ≡ says stateRead 0 0 0)
-unfolding office topic piece0 piece1 id frame address ackDone read hears wakes reports part be num same header kindOf sameKey rise find swap
+unfolding office topic piece0 piece1 id address ackDone read hears wakes reports part be num same header kindOf sameKey rise find swap
     without refusal changeAt only insert byStamp sentPieces chunksOut wakeOut woken kindRow sendStep kindWake wakeRun wakePieces wakeStep wakes-with wakes-at hours always wellFormed isOpen
     every counted times reported joined
 tablet-ends = (refl, refl, refl, refl, refl, refl)
@@ -221,7 +221,7 @@ pub tablet-aborts : (wakes deadlineWake 9000 sent ≡ answers 0 0 (sends (aborte
     ≡ answers 0 0 [] (holding stateAborted 1 (cell 0 piece0 1000 pieceSent) (cell 1 piece1 1000 pieceSent)))
     × (wakes deadlineWake 9000 (holding stateAborted 1 (cell 0 piece0 1000 pieceSent) (cell 1 piece1 1000 pieceSent)) ≡ answers 0 0 [] (fresh roleSend 3))
     × (wakes deadlineWake 9000 (fresh roleSend 3) ≡ refuses unknownId (fresh roleSend 3))
-unfolding office topic piece0 piece1 id frame address hears wakes part be num same header kindOf sameKey rise find swap without refusal changeAt
+unfolding office topic piece0 piece1 id address hears wakes part be num same header kindOf sameKey rise find swap without refusal changeAt
     dropAt only byStamp sentPieces chunksOut wakeOut woken deadlineOut deadlineAt wakeRun wakePieces wakeStep wakes-with wakes-at hours always wellFormed isOpen every counted times
 tablet-aborts = (refl, refl, refl, refl)
 
@@ -233,7 +233,7 @@ pub tablet-waits : (wakes-at thursdays 35999999 sendWake 1000 (pushed stateInPro
     × (wakes-at thursdays 39600000 sendWake 1000 (pushed stateInit) ≡ answers 0 0 [] (pushed stateInit))
     × (wakes-at thursdays 39600000 sendWake 1000 (acked stateInProgress) ≡ answers 0 0 [] (acked stateInProgress))
     × (wakes-at thursdays 39600000 deadlineWake 9000 sent ≡ wakes deadlineWake 9000 sent)
-unfolding office topic piece0 piece1 id frame address part be num same header kindOf sameKey rise find swap without refusal changeAt only insert byStamp sentPieces chunksOut
+unfolding office topic piece0 piece1 id address part be num same header kindOf sameKey rise find swap without refusal changeAt only insert byStamp sentPieces chunksOut
     wakeOut woken deadlineOut deadlineAt wakeRun wakePieces wakeStep wakes-with wakes-at wakes hours always thursdays wellFormed isOpen every counted times
 tablet-waits = (refl, refl, refl, refl, refl, refl, refl)
 
@@ -244,7 +244,7 @@ pub tablet-calendars : (wakes-at [] 36000000 sendWake 1000 sent ≡ refuses badC
     × (wakes-with 10959 thursdays 0 sendWake 1000 sent ≡ refuses shortOutput sent)
     × (wakes-at thursdays 0 sendWake 1000 (fresh roleSend 3) ≡ refuses unknownId (fresh roleSend 3))
     × (wakes-at [] 36000000 deadlineWake 9000 sent ≡ wakes deadlineWake 9000 sent)
-unfolding office topic piece0 piece1 id frame address part be num same header kindOf sameKey rise find swap without refusal changeAt only insert byStamp sentPieces chunksOut
+unfolding office topic piece0 piece1 id address part be num same header kindOf sameKey rise find swap without refusal changeAt only insert byStamp sentPieces chunksOut
     wakeOut woken deadlineOut deadlineAt wakeRun wakePieces wakeStep wakes-with wakes-at wakes hours always thursdays wellFormed isOpen every counted times
 tablet-calendars = (refl, refl, refl, refl, refl, refl, refl)
 

@@ -25,13 +25,13 @@ use Rattle.machine.specs.Refusals.{refusal}
 use Rattle.machine.specs.Pieces.{newCell, putPiece, joined}
 use Rattle.machine.specs.Receive.{found, initAt, chunkAt, doneAt, doneStep, dropAt, takeFrom, takeStep}
 use Rattle.machine.specs.Packet.{doneRow, kindRow, recvStep, tooShort}
-use Rattle.machine.specs.Samples.{id, frame, topic, init, another, chunk, address, Seen, hear, opened}
+use Rattle.machine.specs.Samples.{id, topic, init, another, chunk, address, Seen, hear, opened}
 
 -- ---- a done, and stores
 
 -- the done of some bytes, with their sum
 unfoldable pub done : ℕ → List ℕ → List ℕ
-done count bytes = frame (donePacket id count (blake3 bytes))
+done count bytes = donePacket id count (blake3 bytes)
 
 -- the record of a survey of n bytes about a topic, with slots and pieces
 unfoldable pub surveyOf : List ℕ → ℕ → ℕ → List Cell → Rec
@@ -99,7 +99,7 @@ m9 = finished (8 ∷ 0 ∷ 0 ∷ 16 ∷ 0 ∷ 14 ∷ 0 ∷ 0 ∷ 0 ∷ []) (one 
 -- sum (16); the new piece and the done; the done repeated (8)
 mixed-steps : (hear (chunk 0 0 old) (hear (init 3) opened) ≡ m2) × (hear (done 1 new) (hear (another 3) m2) ≡ m4)
     × (hear (done 1 new) (hear (chunk 0 0 old) m4) ≡ m6) × (hear (done 1 new) (hear (chunk 0 0 new) m6) ≡ m8) × (hear (done 1 new) m8 ≡ m9)
-unfolding old new one m2 m4 m6 m8 m9 id frame topic init another chunk done address hear opened surveyOf arriving finished part be num same add rotr half mix
+unfolding old new one m2 m4 m6 m8 m9 id topic init another chunk done address hear opened surveyOf arriving finished part be num same add rotr half mix
     step round rounds start compress chaining rootBlock wordAt blockAt flagsAt before lastNode chunkNode parentNode level
     node bytes blake3 kindOf header chunkPacket donePacket sameKey equalInFive rise sizes find swap without refusal putPiece joined initAt chunkAt doneAt dropAt
     kindRow recvStep tooShort
@@ -133,7 +133,7 @@ l8 = arriving (0 ∷ 0 ∷ 14 ∷ 13 ∷ 0 ∷ 0 ∷ 0 ∷ 0 ∷ []) (survey 260
 -- the init twice; piece 1 twice, with offset 0; a done with a count of 1 (13) and one of 2 (14: a gap); piece 0 twice
 pub lossy-steps : (hear (init 260) (hear (init 260) opened) ≡ l2) × (hear (chunk 1 0 piece1) (hear (chunk 1 0 piece1) l2) ≡ l4)
     × (hear (done 2 (piece0 ++ piece1)) (hear (done 1 (piece0 ++ piece1)) l4) ≡ l6) × (hear (chunk 0 0 piece0) (hear (chunk 0 0 piece0) l6) ≡ l8)
-unfolding piece0 piece1 l2 l4 l6 l8 id frame init chunk done address hear opened survey surveyOf arriving finished part be num same add rotr half mix
+unfolding piece0 piece1 l2 l4 l6 l8 id init chunk done address hear opened survey surveyOf arriving finished part be num same add rotr half mix
     step round rounds start compress chaining rootBlock wordAt blockAt flagsAt before lastNode chunkNode parentNode level
     node bytes blake3 kindOf header chunkPacket donePacket sameKey equalInFive rise sizes find swap without refusal putPiece joined initAt chunkAt doneAt
     dropAt kindRow recvStep tooShort
@@ -164,6 +164,6 @@ lossy-take = refl
 -- piece 1 has come and the slots grew to 2: its init again changes nothing, another's starts with no pieces
 pub late-steps : (hear (init 260) l4 ≡ record { numbers = 0 ∷ l4 .numbers; recv = l4 .recv })
     × (hear (another 260) l4 ≡ arriving (0 ∷ l4 .numbers) (surveyOf topic 260 1 []) (1 ∷ 2 ∷ []))
-unfolding piece1 l4 id frame topic init another address hear survey surveyOf arriving part be num same kindOf header sameKey equalInFive rise sizes
+unfolding piece1 l4 id topic init another address hear survey surveyOf arriving part be num same kindOf header sameKey equalInFive rise sizes
     find swap without refusal initAt kindRow recvStep
 late-steps = (refl, refl)

@@ -15,6 +15,7 @@ pub mod Done
 pub mod Drop
 pub mod Take
 pub mod Frames
+pub mod Behind
 pub mod Valid
 pub mod Waiting
 pub mod Stamps

@@ -1,6 +1,5 @@
 -- Every packet that is not refused leaves the receive store valid. Assumes nothing.
-use Prim.Native.Nat.{ℕ}
-use native.Mathlib.Omega.{arith}
+use Prim.Native.Nat.{ℕ, _≤_}
 use mathlib.Core.Path.{_≡_, refl}
 use mathlib.Core.Bool.{Bool}
 use mathlib.Core.List.{List}
@@ -11,7 +10,7 @@ use borrow.Author.Tests.{leb-true, not-true}
 use Rattle.octets.specs.BoolsLaws.{one-le, both}
 use Rattle.packet.specs.declared.header.Kind.{Kind}
 use Rattle.packet.specs.declared.header.Kind.the-variants.{Init, Chunk, Done, Read, Aborted, AckInit, AckChunk, AckDone, Nothing}
-use Rattle.packet.specs.Frame.{initLength, chunkIndex, chunkOffset, chunkSize, piece, doneCount, doneSum, largestPiece}
+use Rattle.packet.specs.Frame.{needed, initLength, chunkIndex, chunkOffset, chunkSize, piece, doneCount, doneSum, largestPiece}
 use Rattle.machine.specs.Limits.{longest, topOf}
 use Rattle.machine.specs.Codes.{roleReceive, yes}
 use Rattle.machine.specs.Values.{Rec, Store, Key}
@@ -20,7 +19,7 @@ use Rattle.machine.specs.Valid.{AtMost, Valid}
 use Rattle.machine.specs.Find.{isSome}
 use Rattle.machine.specs.Refusals.{refusal}
 use Rattle.machine.specs.Receive.{found, initStep, chunkAt, doneAt}
-use Rattle.machine.specs.Packet.{Packet, kind, asked, isReply, initLabel, initRow, cellsNeeded, chunkRow, doneRow, kindRow, recvStep, frameBytes}
+use Rattle.machine.specs.Packet.{Packet, kind, asked, isReply, initLabel, initRow, cellsNeeded, chunkRow, doneRow, kindRow, recvStep}
 use Rattle.machine.specs.Typed.{TypedPacket}
 use Rattle.machine_steps.specs.Refusals.{refusal-clear}
 use Rattle.machine_steps.specs.Find.{is-none}
@@ -30,14 +29,14 @@ use Rattle.machine_steps.specs.Done.{done-valid}
 use Rattle.machine_steps.specs.Drop.{drop-valid}
 use Rattle.machine_steps.specs.Frames.{head-sized, piece-most}
 
-init-row : (p : Packet) (s : Store) → TypedPacket p → length (p .frame) ≡ frameBytes → Valid roleReceive s → refusal (initRow p s) ≡ 0
+init-row : (p : Packet) (s : Store) → TypedPacket p → needed Init (p .frame) ≤ length (p .frame) → Valid roleReceive s → refusal (initRow p s) ≡ 0
     → Valid roleReceive (initStep (initLabel p) s)
 init-row p s t h v z =
     let c = refusal-clear (initRow p s) refl z in
     init-valid (initLabel p) s
     (is-none (found (asked p) (s .whole)) (not-true (isSome (found (asked p) (s .whole))) (c .1 .1 .0)))
     (c .1 .1 .1 .1 .0)
-    (record { sized = head-sized p t (omega arith); reply = one-le (isReply p); total = leb-true (initLength (p .frame)) longest (c .1 .1 .1 .0) })
+    (record { sized = head-sized p t h; reply = one-le (isReply p); total = leb-true (initLength (p .frame)) longest (c .1 .1 .1 .0) })
     v
 
 chunk-row : (k : Key) (o : Option Rec) (index offset size : ℕ) (bytes : List ℕ) (s : Store) → found k (s .held) ≡ o → AtMost largestPiece bytes
@@ -57,7 +56,7 @@ done-row k (some r) count sum known s e v z =
     done-valid k r s e (both (eqb (length (r .cells)) (r .slots)) (eqb (sizes (r .cells)) (r .label .total)) (c .1 .0) (c .1 .1 .0)) v
 
 -- the same for each kind
-recv-kind : (k : Kind) (p : Packet) (recv send : Store) → TypedPacket p → length (p .frame) ≡ frameBytes → Valid roleReceive recv
+recv-kind : (k : Kind) (p : Packet) (recv send : Store) → TypedPacket p → needed k (p .frame) ≤ length (p .frame) → Valid roleReceive recv
     → refusal (kindRow k p recv send) ≡ 0 → Valid roleReceive (recvStep k p recv)
 unfolding kindRow recvStep
 recv-kind Init p recv send t h v z = init-row p recv t h v z
@@ -73,6 +72,6 @@ recv-kind AckChunk p recv send t h v z = v
 recv-kind AckDone p recv send t h v z = v
 recv-kind Nothing p recv send t h v z = v
 
-pub recv-valid : (p : Packet) (recv send : Store) → TypedPacket p → length (p .frame) ≡ frameBytes → Valid roleReceive recv
+pub recv-valid : (p : Packet) (recv send : Store) → TypedPacket p → needed (kind p) (p .frame) ≤ length (p .frame) → Valid roleReceive recv
     → refusal (kindRow (kind p) p recv send) ≡ 0 → Valid roleReceive (recvStep (kind p) p recv)
 recv-valid p recv send t h v z = recv-kind (kind p) p recv send t h v z

@@ -17,7 +17,7 @@ use Rattle.packet.specs.LengthsLaws.{length-entry, length-reply}
 use Rattle.machine.specs.Codes.{roleReceive, roleSend}
 use Rattle.machine.specs.Layout.{encode, decode}
 use Rattle.machine.specs.Refusals.{refusal}
-use Rattle.machine.specs.Packet.{Packet, kindRow, recvStep, sendStep, frameBytes, replyBytes}
+use Rattle.machine.specs.Packet.{Packet, kindRow, recvStep, sendStep, replyBytes}
 use Rattle.machine_laws.specs.SoundValid.{sound-valid}
 use Rattle.records.specs.HeldAt.{Receives, Sends}
 use Rattle.records.specs.Step.{stepped}
@@ -89,8 +89,8 @@ module _ {n : ℕ} (k : (k : Kind) × (n ≡ replyBytes k)) where
     pub most : n ≤ 52
     most = omega (arith, k .1, reply-most (k .0))
 
-    pub replies : (frame from to run : List ℕ) → length frame ≡ frameBytes → length from ≡ 16 → length to ≡ 16 → (l : List ℕ)
+    pub replies : (frame from to run : List ℕ) → n ≤ length frame → length from ≡ 16 → length to ≡ 16 → (l : List ℕ)
         → l ≡ put run 0 (entry to from (replyPacket n frame)) → (34 + n ≡ length (replyOut n frame from to)) × (l ≡ put run 0 (replyOut n frame from to))
     replies frame from to run h f t l w =
-        let size = length-reply frame n least (omega (arith, most)) in
+        let size = length-reply frame n least h in
         rw (ne-eqb n 0 some) (sym (length-entry to from (replyPacket n frame) t f ∙ ap (λ (m : ℕ). 34 + m) size), w)

@@ -4,6 +4,7 @@ use crate::step;
 use crate::step::Route;
 use answer::Answer;
 use packet::header;
+use packet::needed;
 use packet::reader;
 use packet::run;
 use rows::head;
@@ -11,14 +12,11 @@ ghost use mathlib.Core.Path.{_≡_};
 ghost use Rattle.machine.specs.Packet.{packetOf};
 ghost use Rattle.machine.specs.Take.{takeOf};
 
-// The bytes of a frame.
-const FRAME: usize = 1400;
-
 // What the longest reply takes in a run.
 const REPLY_ROOM: usize = run::PACKET + step::DONE_REPLY;
 
-// A packet that came in: `known` tells whether the host knows the key of the record's source, `rules` is the
-// rule book, and the reply goes into `run`.
+// A packet that came in: `frame` has the bytes received, `known` tells whether the host knows the key of the
+// record's source, `rules` is the rule book, and the reply goes into `run`.
 pub fn packet(
     recv: &mut [u8],
     send: &mut [u8],
@@ -45,10 +43,16 @@ pub fn packet(
     if !soundness::store::sound(send, head::SEND) {
         return answer::refuse(answer::UNSOUND_STORE);
     }
-    if frame.len() != FRAME {
+    if !needed::is_frame(frame) {
         return answer::refuse(answer::BAD_FRAME);
     }
+    if frame.len() < header::SIZE {
+        return answer::refuse(answer::SHORT_FRAME);
+    }
     let kind = header::kind_of(reader::flags(frame));
+    if !needed::is_enough(kind, frame) {
+        return answer::refuse(answer::SHORT_FRAME);
+    }
     let effect = step::effect_of(kind);
     if !effect.any {
         return answer::refuse(answer::NO_WORK);

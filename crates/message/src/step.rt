@@ -15,7 +15,8 @@ ghost use Prim.Native.Nat.{_≤_};
 ghost use lib.ListN.{length};
 ghost use Rattle.octets.specs.Octets.{put};
 ghost use Rattle.packet.specs.declared.header.Kind.{Kind};
-ghost use Rattle.machine.specs.Packet.{frameBytes, packetRoom, isKind, kindWake, arrival, replyBytes};
+ghost use Rattle.packet.specs.Frame.{needed};
+ghost use Rattle.machine.specs.Packet.{packetRoom, isKind, kindWake, arrival, replyBytes};
 ghost use Rattle.records.specs.HeldAt.{Receives, Sends};
 ghost use Rattle.message.specs.Both.{bothOf, replyOut};
 
@@ -81,7 +82,7 @@ pub fn step(
     rules: &[u8],
     known: u64,
 ) -> u64
-    requires { ⌜ Receives (now recv) × Sends (now send) × (length (now frame) ≡ frameBytes) ⌝ }
+    requires { ⌜ Receives (now recv) × Sends (now send) × (needed kind (now frame) ≤ length (now frame)) ⌝ }
     ensures { λ r.
         let p = arrival (now (frame .entry)) (route .from) (route .to) (now (rules .entry)) known in
         ⌜ record { number = r; recv = now (recv .exit); send = now (send .exit) }
@@ -119,7 +120,7 @@ pub fn step(
 // The reply, from the packet's to-address to its from-address; answers how long the run is.
 pub fn reply(keeps: usize, frame: &[u8], from: &[u8; 16], to: &[u8; 16], run: &mut [u8]) -> usize
     requires { ⌜ ((k : Kind) × (keeps ≡ replyBytes k))
-        × (length (now frame) ≡ frameBytes)
+        × (keeps ≤ length (now frame))
         × (packetRoom ≤ length (now run)) ⌝ }
     ensures { λ r.
         let out = replyOut keeps (now (frame .entry)) (now (from .entry)) (now (to .entry)) in

@@ -1,10 +1,11 @@
--- A frame's fields, and the kind that its flag byte decides: PROTOCOL, "Packets".
-use Prim.Native.Nat.{ℕ, min}
-use mathlib.Core.Bool.{Bool, not, cond}
+-- A frame's fields, the kind that its flag byte decides, and how many bytes a kind needs: PROTOCOL, "Packets". A field is said of the bytes that came:
+-- where some of its bytes did not, nothing stands in for them, and the contracts of the reader promise nothing.
+use Prim.Native.Nat.{ℕ, _+_, min}
+use mathlib.Core.Bool.{Bool, not, cond, _&&_}
 use mathlib.Core.List.{List}
-use lib.ListN.{getD}
+use lib.ListN.{length}
 use lib.Bits.{bitAnd}
-use lib.Dec.{eqb}
+use lib.Dec.{eqb, leb}
 use Rattle.octets.specs.Octets.{part, num}
 use Rattle.packet.specs.declared.header.Kind.{Kind}
 use Rattle.packet.specs.declared.header.Kind.the-variants.{Init, Chunk, Done, Read, Aborted, AckInit, AckChunk, AckDone, Nothing}
@@ -65,11 +66,15 @@ afterFlagsAt = 9
 abbrev pub bodyAt : ℕ
 bodyAt = 12
 
+-- the number in bytes that came, the highest first
+abbrev pub number : List ℕ → ℕ
+number l = num (length l) l
+
 abbrev pub idOf : List ℕ → List ℕ
 idOf f = part f 0 idSize
 
 abbrev pub flagsOf : List ℕ → ℕ
-flagsOf f = getD f flagsAt 0
+flagsOf f = number (part f flagsAt 1)
 
 -- "init is length (8), topic length (1), topic"
 abbrev pub initTopicSizeAt : ℕ
@@ -79,10 +84,13 @@ abbrev pub initTopicAt : ℕ
 initTopicAt = 21
 
 abbrev pub initLength : List ℕ → ℕ
-initLength f = num 8 (part f bodyAt 8)
+initLength f = number (part f bodyAt 8)
+
+abbrev pub initTopicSize : List ℕ → ℕ
+initTopicSize f = number (part f initTopicSizeAt 1)
 
 abbrev pub initTopic : List ℕ → List ℕ
-initTopic f = part f initTopicAt (getD f initTopicSizeAt 0)
+initTopic f = part f initTopicAt (initTopicSize f)
 
 -- "chunk is index (8), offset (8), size (8), data"
 abbrev pub chunkOffsetAt : ℕ
@@ -95,17 +103,20 @@ abbrev pub chunkPieceAt : ℕ
 chunkPieceAt = 36
 
 abbrev pub chunkIndex : List ℕ → ℕ
-chunkIndex f = num 8 (part f bodyAt 8)
+chunkIndex f = number (part f bodyAt 8)
 
 abbrev pub chunkOffset : List ℕ → ℕ
-chunkOffset f = num 8 (part f chunkOffsetAt 8)
+chunkOffset f = number (part f chunkOffsetAt 8)
+
+abbrev pub chunkSizeField : List ℕ → ℕ
+chunkSizeField f = number (part f chunkSizeAt 8)
 
 -- "Piece size is the smaller of the field and 1,364"
 abbrev pub largestPiece : ℕ
 largestPiece = 1364
 
 abbrev pub chunkSize : List ℕ → ℕ
-chunkSize f = min (num 8 (part f chunkSizeAt 8)) largestPiece
+chunkSize f = min (chunkSizeField f) largestPiece
 
 abbrev pub piece : List ℕ → List ℕ
 piece f = part f chunkPieceAt (chunkSize f)
@@ -121,7 +132,30 @@ abbrev pub doneEnd : ℕ
 doneEnd = 52
 
 abbrev pub doneCount : List ℕ → ℕ
-doneCount f = num 8 (part f bodyAt 8)
+doneCount f = number (part f bodyAt 8)
 
 abbrev pub doneSum : List ℕ → List ℕ
 doneSum f = part f doneSumAt sumSize
+
+-- "a frame of 1 to 1,400"
+abbrev pub largestFrame : ℕ
+largestFrame = 1400
+
+abbrev pub isFrame : List ℕ → Bool
+isFrame f = leb 1 (length f) && leb (length f) largestFrame
+
+-- "Needed are 12 bytes, for init 21 plus topic, for chunk 36 plus the size field uncapped, for done 52; an acknowledgement needs 12, of a chunk 36"
+abbrev pub needed : Kind → List ℕ → ℕ
+needed Init f = initTopicAt + initTopicSize f
+needed Chunk f = chunkPieceAt + chunkSizeField f
+needed Done f = doneEnd
+needed Read f = bodyAt
+needed Aborted f = bodyAt
+needed AckInit f = bodyAt
+needed AckChunk f = chunkPieceAt
+needed AckDone f = bodyAt
+needed Nothing f = bodyAt
+
+-- .. and so many came
+abbrev pub isEnough : Kind → List ℕ → Bool
+isEnough k f = leb (needed k f) (length f)

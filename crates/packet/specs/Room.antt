@@ -1,16 +1,9 @@
--- What a reader and a writer of packets ask.
+-- What a writer of packets asks.
 use Prim.Native.Nat.{ℕ, _+_, _≤_}
 use mathlib.Core.Path.{_≡_}
 use mathlib.Core.List.{List}
 use lib.ListN.{length}
-use Rattle.packet.specs.Frame.{addressSize, initTopicAt, chunkPieceAt, largestPiece}
-
--- where the longest topic of an init ends, 255 bytes, and the largest piece of a chunk
-abbrev pub initEnd : ℕ
-initEnd = initTopicAt + 255
-
-abbrev pub chunkEnd : ℕ
-chunkEnd = chunkPieceAt + largestPiece
+use Rattle.packet.specs.Frame.{addressSize}
 
 -- what stands before a packet in its entry
 abbrev pub entryFront : ℕ

@@ -4,10 +4,10 @@ ghost use mathlib.Core.Path.{_≡_};
 ghost use Prim.Native.Nat.{_+_, _≤_};
 ghost use lib.ListN.{length};
 ghost use Rattle.octets.specs.Octets.{put};
-ghost use Rattle.packet.specs.Frame.{chunkIndex, chunkOffset, chunkSize, piece, largestPiece};
+ghost use Rattle.packet.specs.declared.header.Kind.the-variants.{Chunk};
+ghost use Rattle.packet.specs.Frame.{chunkIndex, chunkOffset, chunkSize, piece, largestPiece, needed, isEnough};
 ghost use Rattle.packet.specs.Frame.{idSize, chunkOffsetAt, chunkSizeAt, chunkPieceAt};
 ghost use Rattle.packet.specs.Outgoing.{chunkPacket};
-ghost use Rattle.packet.specs.Room.{chunkEnd};
 
 pub struct MessageChunk {}
 
@@ -22,12 +22,23 @@ impl MessageChunk {
     // What is left of a frame of 1,400 bytes for the piece.
     pub const LARGEST: u64 = 1364;
 
+    // Whether its fields came, and behind them as many bytes as its size field says: what is left of the frame is
+    // compared, so that no size is too large to add.
+    pub fn came(frame: &[u8]) -> bool
+        ensures { λ r. ⌜ r ≡ isEnough Chunk (now (frame .entry)) ⌝ }
+    {
+        if frame.len() < Self::PIECE {
+            return false;
+        }
+        crate::field::number(frame, Self::LENGTH) <= (frame.len() - Self::PIECE) as u64
+    }
+
     // The index of the piece.
     pub fn index(frame: &[u8]) -> u64
         requires { ⌜ chunkOffsetAt ≤ length (now frame) ⌝ }
         ensures { λ r. ⌜ r ≡ chunkIndex (now (frame .entry)) ⌝ }
     {
-        octets::get64(frame, Self::INDEX)
+        crate::field::number(frame, Self::INDEX)
     }
 
     // Where the piece stands in the message.
@@ -35,7 +46,7 @@ impl MessageChunk {
         requires { ⌜ chunkSizeAt ≤ length (now frame) ⌝ }
         ensures { λ r. ⌜ r ≡ chunkOffset (now (frame .entry)) ⌝ }
     {
-        octets::get64(frame, Self::OFFSET)
+        crate::field::number(frame, Self::OFFSET)
     }
 
     // The size of the piece: the field, or what fits into a frame if that is less.
@@ -43,7 +54,7 @@ impl MessageChunk {
         requires { ⌜ chunkPieceAt ≤ length (now frame) ⌝ }
         ensures { λ r. ⌜ (r ≡ chunkSize (now (frame .entry))) × (r ≤ largestPiece) ⌝ }
     {
-        let n = octets::get64(frame, Self::LENGTH);
+        let n = crate::field::number(frame, Self::LENGTH);
         if n < Self::LARGEST {
             return n as usize;
         }
@@ -52,7 +63,7 @@ impl MessageChunk {
 
     // The piece, as that part of the frame.
     pub fn piece(frame: &[u8]) -> &[u8]
-        requires { ⌜ chunkEnd ≤ length (now frame) ⌝ }
+        requires { ⌜ needed Chunk (now frame) ≤ length (now frame) ⌝ }
         ensures { λ r. ⌜ now r ≡ piece (now (frame .entry)) ⌝ }
     {
         let n = Self::size(frame);

@@ -23,7 +23,7 @@ impl MessageDone {
         requires { ⌜ doneSumAt ≤ length (now frame) ⌝ }
         ensures { λ r. ⌜ r ≡ doneCount (now (frame .entry)) ⌝ }
     {
-        octets::get64(frame, Self::COUNT)
+        crate::field::number(frame, Self::COUNT)
     }
 
     // The sum, as that part of the frame.

@@ -104,7 +104,7 @@ pub fn flags(frame: &[u8]) -> u8
     requires { ⌜ afterFlagsAt ≤ length (now frame) ⌝ }
     ensures { λ r. ⌜ r ≡ flagsOf (now (frame .entry)) ⌝ }
 {
-    frame[FLAGS]
+    crate::field::byte(frame, FLAGS)
 }
 
 // The id of a frame, as that part of it.

@@ -5,10 +5,10 @@ ghost use mathlib.Core.Bool.{cond};
 ghost use Prim.Native.Nat.{_+_, _<_, _≤_};
 ghost use lib.ListN.{length};
 ghost use Rattle.octets.specs.Octets.{put};
-ghost use Rattle.packet.specs.Frame.{initLength, initTopic, initFlag, replyFlag};
+ghost use Rattle.packet.specs.declared.header.Kind.the-variants.{Init};
+ghost use Rattle.packet.specs.Frame.{initLength, initTopic, initFlag, replyFlag, needed, isEnough};
 ghost use Rattle.packet.specs.Frame.{idSize, initTopicSizeAt, initTopicAt};
 ghost use Rattle.packet.specs.Outgoing.{initPacket};
-ghost use Rattle.packet.specs.Room.{initEnd};
 
 pub struct MessageInit {}
 
@@ -19,20 +19,30 @@ impl MessageInit {
 
     pub const TOPIC: usize = Self::TOPIC_LENGTH + 1;
 
+    // Whether its fields came, and behind them as many bytes as its topic has.
+    pub fn came(frame: &[u8]) -> bool
+        ensures { λ r. ⌜ r ≡ isEnough Init (now (frame .entry)) ⌝ }
+    {
+        if frame.len() < Self::TOPIC {
+            return false;
+        }
+        octets::small(crate::field::byte(frame, Self::TOPIC_LENGTH)) <= frame.len() - Self::TOPIC
+    }
+
     // The message's length.
     pub fn length(frame: &[u8]) -> u64
         requires { ⌜ initTopicSizeAt ≤ length (now frame) ⌝ }
         ensures { λ r. ⌜ r ≡ initLength (now (frame .entry)) ⌝ }
     {
-        octets::get64(frame, Self::LENGTH)
+        crate::field::number(frame, Self::LENGTH)
     }
 
     // The topic, as that part of the frame.
     pub fn topic(frame: &[u8]) -> &[u8]
-        requires { ⌜ initEnd ≤ length (now frame) ⌝ }
+        requires { ⌜ needed Init (now frame) ≤ length (now frame) ⌝ }
         ensures { λ r. ⌜ now r ≡ initTopic (now (frame .entry)) ⌝ }
     {
-        let n = octets::small(frame[Self::TOPIC_LENGTH]);
+        let n = octets::small(crate::field::byte(frame, Self::TOPIC_LENGTH));
         &frame[Self::TOPIC..Self::TOPIC + n]
     }
 

@@ -3,8 +3,10 @@
 
 pub mod chunk;
 pub mod done;
+pub(crate) mod field;
 pub mod header;
 pub mod init;
 pub mod label;
+pub mod needed;
 pub mod reader;
 pub mod run;

@@ -1,5 +1,6 @@
-// The reader of a frame: it holds the caller's bytes, and gives each field by one call of the function that
-// reads it from a slice. Behind it the same fields as functions of the frame: the calls use these.
+// The reader of a frame: it holds the bytes that came, and gives each field by one call of the function that
+// reads it from a slice. Each asks that its bytes came, and promises nothing else.
+// Behind it the same fields as functions of the frame: the calls use these.
 
 ghost use mathlib.Core.Path.{_≡_};
 ghost use Prim.Native.Nat.{_≤_};
@@ -8,7 +9,8 @@ ghost use Rattle.packet.specs.Frame.{idOf, flagsOf, initLength, initTopi
 ghost use Rattle.packet.specs.Frame.{chunkIndex, chunkOffset, chunkSize, piece, largestPiece};
 ghost use Rattle.packet.specs.Frame.{idSize, afterFlagsAt, initTopicSizeAt, doneSumAt, doneEnd};
 ghost use Rattle.packet.specs.Frame.{chunkOffsetAt, chunkSizeAt, chunkPieceAt};
-ghost use Rattle.packet.specs.Room.{initEnd, chunkEnd};
+ghost use Rattle.packet.specs.Frame.{needed};
+ghost use Rattle.packet.specs.declared.header.Kind.the-variants.{Init, Chunk};
 
 pub struct Frame<'a> {
     pub bytes: &'a [u8],
@@ -48,7 +50,7 @@ impl<'a> Frame<'a> {
 
     // The topic of an init, as that part of the frame.
     pub fn topic(self) -> &'a [u8]
-        requires { ⌜ initEnd ≤ length (now (self .bytes)) ⌝ }
+        requires { ⌜ needed Init (now (self .bytes)) ≤ length (now (self .bytes)) ⌝ }
         ensures { λ r. ⌜ now r ≡ initTopic (now (self .entry .bytes)) ⌝ }
     {
         crate::init::MessageInit::topic(self.bytes)
@@ -80,7 +82,7 @@ impl<'a> Frame<'a> {
 
     // The piece of a chunk, as that part of the frame.
     pub fn piece(self) -> &'a [u8]
-        requires { ⌜ chunkEnd ≤ length (now (self .bytes)) ⌝ }
+        requires { ⌜ needed Chunk (now (self .bytes)) ≤ length (now (self .bytes)) ⌝ }
         ensures { λ r. ⌜ now r ≡ piece (now (self .entry .bytes)) ⌝ }
     {
         crate::chunk::MessageChunk::piece(self.bytes)
@@ -129,7 +131,7 @@ pub fn length(frame: &[u8]) -> u64
 
 // The topic of an init, as that part of the frame.
 pub fn topic(frame: &[u8]) -> &[u8]
-    requires { ⌜ initEnd ≤ length (now frame) ⌝ }
+    requires { ⌜ needed Init (now frame) ≤ length (now frame) ⌝ }
     ensures { λ r. ⌜ now r ≡ initTopic (now (frame .entry)) ⌝ }
 {
     new(frame).topic()
@@ -161,7 +163,7 @@ pub fn size(frame: &[u8]) -> usize
 
 // The piece of a chunk, as that part of the frame.
 pub fn piece(frame: &[u8]) -> &[u8]
-    requires { ⌜ chunkEnd ≤ length (now frame) ⌝ }
+    requires { ⌜ needed Chunk (now frame) ≤ length (now frame) ⌝ }
     ensures { λ r. ⌜ now r ≡ piece (now (frame .entry)) ⌝ }
 {
     new(frame).piece()

@@ -72,7 +72,7 @@ module _ (F : Field) (f : Name) where
     abbrev Below : Contract 𝓤
     Below = OnSlice F 𝓤 H A
 
-    module _ (W : Given 𝓤 H A) (κ : Lft) (q : Share) (d : Frame) (ok : F .reach ≤ length (now (d .bytes))) where
+    module _ (W : Given 𝓤 H A) (κ : Lft) (q : Share) (d : Frame) (ok : F .reach (now (d .bytes)) ≤ length (now (d .bytes))) where
       abbrev κs : Lfts 1
       κs = (κ, tt)
 

@@ -31,8 +31,8 @@ pub record Field : Type 2 where
   pub result : Slot 1
   pub ty : Ty
   pub typed : (κ : Lft) (r : result .row (κ, tt) .Denot) (v : Val) → Is (result .row (κ, tt)) r (v ∷ []) → Holds (hasTy ty v) × WT v
-  -- how many bytes the frame has at least, and what is said of its bytes and the result
-  pub reach : ℕ
+  -- how many bytes the frame needs, and what is said of its bytes and the result
+  pub reach : List ℕ → ℕ
   pub Says : (κs : Lfts 1) → List ℕ → result .row κs .Denot → Type 0
 
 -- the slice's type
@@ -44,7 +44,7 @@ abbrev pub Reader : Lfts 1 → RattleType
 Reader κs = T.the-row (namedLft 1 0 tt κs)
 
 -- a field that is a number
-abbrev pub number : Width → ℕ → (List ℕ → ℕ → Type 0) → Field
+abbrev pub number : Width → (List ℕ → ℕ) → (List ℕ → ℕ → Type 0) → Field
 number w reach Says = record {
   result = plain (λ _. UInt w);
   ty = tyInt w;
@@ -54,7 +54,7 @@ number w reach Says = record {
 }
 
 -- a field that is a part of the frame
-abbrev pub part : ℕ → (List ℕ → List ℕ) → Field
+abbrev pub part : (List ℕ → ℕ) → (List ℕ → List ℕ) → Field
 part reach bytes′ = record {
   result = slice;
   ty = sliceTy (tyRef (named 0) imm (tyInt w8));
@@ -75,14 +75,14 @@ module _ (F : Field) where
     abbrev pub slice-clauses : Clauses 𝓤 ofSlice
     slice-clauses κs a = record {
       ghost = Unit {0};
-      requires = λ _. fact 𝓤 (F .reach ≤ length (now (a .0)));
+      requires = λ _. fact 𝓤 (F .reach (now (a .0)) ≤ length (now (a .0)));
       ensures = λ _ r _. fact 𝓤 (F .Says κs (now (a .0)) r);
     }
 
     abbrev pub reader-clauses : Clauses 𝓤 ofReader
     reader-clauses κs a = record {
       ghost = Unit {0};
-      requires = λ _. fact 𝓤 (F .reach ≤ length (now (a .0 .bytes)));
+      requires = λ _. fact 𝓤 (F .reach (now (a .0 .bytes)) ≤ length (now (a .0 .bytes)));
       ensures = λ _ r _. fact 𝓤 (F .Says κs (now (a .0 .bytes)) r);
     }
 

@@ -67,7 +67,7 @@ module _ (F : Field) (f : Name) where
       abbrev New : Contract 𝓤
       New = tripleOf 𝓤 H A new.signature (new.spec 𝓤 H A mem run)
 
-      module _ (W : Given 𝓤 H A) (κ : Lft) (q : Share) (s : RefT (List ℕ)) (ok : F .reach ≤ length (now s)) where
+      module _ (W : Given 𝓤 H A) (κ : Lft) (q : Share) (s : RefT (List ℕ)) (ok : F .reach (now s) ≤ length (now s)) where
         abbrev κs : Lfts 1
         κs = (κ, tt)
 
@@ -117,7 +117,7 @@ module _ (F : Field) (f : Name) where
         goes : (d : Frame) (u : Val) → d .bytes ≡ s → ent 𝓤 (⋆ 𝓤 H A (‵ (Reader κs .own d (u ∷ [])) ∷ (‵ (flft κ q) ⊛ ‵ ftrue) ∷ [])) (Below .pre (to d u))
         goes d u e =
             qed W (‵ (Reader κs .own d (u ∷ [])) ∷ (‵ (flft κ q) ⊛ ‵ ftrue) ∷ []) ∵
-            says ! (subst (λ (x : RefT (List ℕ)). F .reach ≤ length (now x)) (sym e) ok) $
+            says ! (subst (λ (x : RefT (List ℕ)). F .reach (now x) ≤ length (now x)) (sym e) ok) $
             nothing ! $ move ! (1 ∷ 0 ∷ []) $ fjoin ! $ move ! (1 ∷ 0 ∷ []) $ frame ! $ done !
 
         abbrev Gives : Frame → R .Denot → SProp 𝓤

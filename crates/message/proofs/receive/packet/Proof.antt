@@ -1,13 +1,16 @@
 -- The refusals in PROTOCOL's order, then the step and its reply. Assumes nothing.
-use Prim.Native.Nat.{ℕ}
+use Prim.Native.Nat.{ℕ, _≤_}
+use native.Mathlib.Omega.{arith}
 use mathlib.Core.Path.{_≡_, refl, sym, ap, _∙_}
 use lib.ListN.{length, drop}
-use borrow.Author.Tests.{eq-eqb, ne-eqb, le-leb, lt-leb, not-true, not-false}
+use borrow.Author.Tests.{leb-true, le-leb, lt-leb, not-true, not-false}
 use Rattle.octets.specs.Octets.{put}
 use Rattle.packet.specs.declared.header.Kind.{Kind}
-use Rattle.packet.specs.Frame.{kindOf}
+use Rattle.packet.specs.Frame.{kindOf, needed, isEnough}
+use Rattle.packet.specs.FieldsLaws.{header-needed}
 use Rattle.machine.specs.Refusals.{Refusals, refusal}
 use Rattle.machine.specs.Packet.{Packet, kind, isKind, kindWake, replyBytes, packetRow, packetOf, arrival}
+use Rattle.machine_steps.specs.Frames.{reply-came}
 use Rattle.records.specs.RefuseLaws.{next}
 use Rattle.message.specs.Both.{bothOf, replyOut}
 use Rattle.message.proofs.Packets.{step-out, done-out}
@@ -33,14 +36,23 @@ abbrev s2 : tie.Else2 → tie.Start
 s2 c = s1 (c .before .before .before)
 
 abbrev s3 : tie.Else3 → tie.Start
-s3 c = s2 (c .before)
+s3 c = s2 (c .before .before)
 
 abbrev s4 : tie.Else4 → tie.Start
-s4 c = s3 (c .before .before .before .before .before)
+s4 c = s3 (c .before)
 
--- the kind of the frame is decided
-kind-is : (c : tie.After-kind-of) → c .kind-of .result ≡ kind (P (s3 (c .before .before)))
+abbrev s5 : tie.Else5 → tie.Start
+s5 c = s4 (c .before .before .before .before)
+
+abbrev s6 : tie.Else6 → tie.Start
+s6 c = s5 (c .before .before .before)
+
+-- the kind of the frame is decided, and what it needs
+kind-is : (c : tie.After-kind-of) → c .kind-of .result ≡ kind (P (s4 (c .before .before)))
 kind-is c = c .kind-of .ensures ∙ ap kindOf (c .before .flags .ensures)
+
+enough-is : (c : tie.After-is-enough) → let p = P (s4 (c .before .before .before)) in isEnough (kind p) (p .frame) ≡ c .is-enough .result
+enough-is c = sym (c .is-enough .ensures ∙ ap (λ (k : Kind). isEnough k (P (s4 (c .before .before .before)) .frame)) (kind-is (c .before)))
 
 -- the row behind each test
 from1 : (c : tie.Else1) → From 1 (s1 c)
@@ -53,18 +65,25 @@ from2 c = from1 (c .before .before .before) ∙ next _ _ _ (sym (c .before .soun
 
 from3 : (c : tie.Else3) → From 3 (s3 c)
 unfolding packetRow
-from3 c = from2 (c .before) ∙ next _ _ _ (eq-eqb _ _ (c .if3 .left))
+from3 c = from2 (c .before .before) ∙ next _ _ _ (sym (c .before .is-frame .ensures) ∙ not-false _ (c .if3 .left))
 
-from4 : (c : tie.Else4) → From 4 (s4 c)
+from4 : (c : tie.Else5) → From 4 (s5 c)
 unfolding packetRow
 from4 c =
-    let effect = c .before .before in
-    let kind = effect .before in
-    from3 (kind .before .before) ∙ next _ _ _ (sym (effect .effect-of .ensures .0 ∙ ap isKind (kind-is kind)) ∙ not-false _ (c .if4 .left))
+    let enough = c .before in
+    from3 (enough .before .before .before .before) ∙ next _ _ _ (enough-is enough ∙ not-false _ (c .if5 .left))
 
-from5 : (c : tie.Else5) → From 5 (s4 (c .before))
+-- some kind fits, or none
+any-is : (c : tie.After-effect-of) → isKind (kind (P (s5 (c .before)))) ≡ c .effect-of .result .any
+any-is c = sym (c .effect-of .ensures .0 ∙ ap isKind (kind-is (c .before .before .before)))
+
+from5 : (c : tie.Else6) → From 5 (s6 c)
 unfolding packetRow
-from5 c = from4 (c .before) ∙ next _ _ _ (le-leb _ _ (c .if5 .left))
+from5 c = let effect = c .before .before in from4 (effect .before) ∙ next _ _ _ (any-is effect ∙ not-false _ (c .if6 .left))
+
+from6 : (c : tie.Else7) → From 6 (s6 (c .before))
+unfolding packetRow
+from6 c = from5 (c .before) ∙ next _ _ _ (le-leb _ _ (c .if7 .left))
 
 returns : tie.Need-returns
 unfolding packetOf packetRow refusal
@@ -79,73 +98,99 @@ returns-2 c =
 
 returns-3 : tie.Need-returns-3
 unfolding packetOf packetRow refusal
-returns-3 c = rw (from2 (c .before .before), ne-eqb _ _ (c .before .if3 .taken), c .refuse3 .ensures) refl
+returns-3 c =
+    let framed = c .before .before in
+    rw (from2 (framed .before), sym (framed .is-frame .ensures) ∙ not-true _ (c .before .if3 .taken), c .refuse3 .ensures) refl
 
+-- the header did not come, or not all that the kind needs
 returns-4 : tie.Need-returns-4
 unfolding packetOf packetRow refusal
 returns-4 c =
-    let effect = c .before .before .before in
-    let kind = effect .before in
-    let none = sym (effect .effect-of .ensures .0 ∙ ap isKind (kind-is kind)) ∙ not-true _ (c .before .if4 .taken) in
-    rw (from3 (kind .before .before), none, c .refuse4 .ensures) refl
+    let framed = c .before .before in
+    let p : Packet = P (s3 framed) in
+    let few = lt-leb (needed (kind p) (p .frame)) (length (p .frame)) (omega (arith, c .before .if4 .taken, header-needed (kind p) (p .frame))) in
+    rw (from3 framed, few, c .refuse4 .ensures) refl
 
 returns-5 : tie.Need-returns-5
 unfolding packetOf packetRow refusal
-returns-5 c = rw (from4 (c .before .before), lt-leb _ _ (c .before .if5 .taken), c .refuse5 .ensures) refl
+returns-5 c =
+    let enough = c .before .before in
+    rw (from3 (enough .before .before .before .before), enough-is enough ∙ not-true _ (c .before .if5 .taken), c .refuse5 .ensures) refl
+
+returns-6 : tie.Need-returns-6
+unfolding packetOf packetRow refusal
+returns-6 c =
+    let effect = c .before .before .before in
+    rw (from4 (effect .before), any-is effect ∙ not-true _ (c .before .if6 .taken), c .refuse6 .ensures) refl
+
+returns-7 : tie.Need-returns-7
+unfolding packetOf packetRow refusal
+returns-7 c = rw (from5 (c .before .before), lt-leb _ _ (c .before .if7 .taken), c .refuse7 .ensures) refl
 
 -- what the step left
-abbrev accepted : tie.After-step → tie.Else4
+abbrev accepted : tie.After-step → tie.Else6
 accepted c = c .before .before .before .before .before .before
 
 abbrev effect-at : tie.After-step → tie.After-effect-of
 effect-at c = accepted c .before .before
 
+abbrev kind-at : tie.After-effect-of → tie.After-kind-of
+kind-at c = c .before .before .before
+
+-- all came that the kind needs
+came : (c : tie.Else5) → let k = c .before .before in
+    let f = s5 c .args .frame .now in
+    needed (k .kind-of .result) f ≤ length f
+came c = leb-true _ _ (sym (c .before .is-enough .ensures) ∙ not-false _ (c .if5 .left))
+
 step-requires : tie.Need-step-requires
 step-requires c κs =
-    let framed = c .before .before .before .before .before .before .before .before .before .before in
-    let sends = framed .before in
+    let enough = c .before .before .before .before .before .before .before .before in
+    let sends = enough .before .before .before .before .before .before .before in
     let recvs = sends .before .before .before in (
       sym (recvs .before .sound .ensures) ∙ not-false _ (recvs .if1 .left),
       sym (sends .before .sound2 .ensures) ∙ not-false _ (sends .if2 .left),
-      framed .if3 .left,
+      came enough,
     )
 
 -- the kind that it was told is the packet's own
-own : (c : tie.After-step) → let s = s4 (accepted c) in
+own : (c : tie.After-step) → let s = s6 (accepted c) in
     let b = s .args .recv .now in
     let c′ = s .args .send .now in
-    bothOf (effect-at c .before .kind-of .result) (P s) b c′ ≡ bothOf (kind (P s)) (P s) b c′
-own c = let s = s4 (accepted c) in ap (λ (k : Kind). bothOf k (P s) (s .args .recv .now) (s .args .send .now)) (kind-is (effect-at c .before))
+    bothOf (kind-at (effect-at c) .kind-of .result) (P s) b c′ ≡ bothOf (kind (P s)) (P s) b c′
+own c = let s = s6 (accepted c) in ap (λ (k : Kind). bothOf k (P s) (s .args .recv .now) (s .args .send .now)) (kind-is (kind-at (effect-at c)))
 
-returns-6 : tie.Need-returns-6
+returns-8 : tie.Need-returns-8
 unfolding packetOf packetRow refusal
-returns-6 c =
+returns-8 c =
     let step = c .before .before .before .before .before .before in
     let room = step .before .before .before .before .before in
-    rw (from5 room, c .refuse6 .ensures) (step-out (P (s4 (room .before))) _ _ _ (step .step .ensures ∙ own step) (c .before .if6 .taken))
+    rw (from6 room, c .refuse8 .ensures) (step-out (P (s6 (room .before))) _ _ _ (step .step .ensures ∙ own step) (c .before .if8 .taken))
 
 reply-requires : tie.Need-reply-requires
 reply-requires c κs =
     let step = c .before .before .before .before .before .before in
     let room = step .before .before .before .before .before in
     let effect = effect-at step in
-    let known = effect .effect-of .ensures .1 ∙ ap replyBytes (kind-is (effect .before)) in
-    ((kind (P (s4 (room .before))), known), effect .before .before .before .if3 .left, room .if5 .left)
+    let kept = effect .effect-of .ensures .1 in
+    let k = kind-at effect .kind-of .result in
+    let f = s6 (room .before) .args .frame .now in
+    ((k, kept), omega (arith, kept, reply-came k f, came (effect .before)), room .if7 .left)
 
-returns-7 : tie.Need-returns-7
+returns-9 : tie.Need-returns-9
 unfolding packetOf packetRow refusal
-returns-7 c =
+returns-9 c =
     let reply = c .before .before .before in
     let done = reply .before .before in
     let step = done .before .before .before .before .before in
     let room = step .before .before .before .before .before in
     let effect = effect-at step in
-    let p : Packet = P (s4 (room .before)) in
+    let p : Packet = P (s6 (room .before)) in
     let e = effect .effect-of .ensures in
-    let k = kind-is (effect .before) in
+    let k = kind-is (kind-at effect) in
     let o = ap (λ (n : ℕ). replyOut n (p .frame) (p .from) (p .to)) (e .1 ∙ ap replyBytes k) in
-    rw (from5 room, c .accept .ensures)
-    (done-out p _ _ _ (step .step .ensures ∙ own step) (done .if6 .left)
+    rw (from6 room, c .accept .ensures)
+    (done-out p _ _ _ (step .step .ensures ∙ own step) (done .if8 .left)
     (reply .reply .ensures .0 ∙ ap length o) (e .2 ∙ ap kindWake k) (reply .reply .ensures .1 ∙ ap (put _ 0) o))
 
 pub packet-spec : {M : Type 1} → statement M
@@ -154,8 +199,10 @@ packet-spec =
     (tie.spec
     (λ c κs. search needs) (λ c κs. search needs) (λ c. search needs) returns
     (λ c κs. search needs) (λ c κs. search needs) (λ c. search needs) (λ c. search needs) returns-2
-    (λ c κs. search needs) (λ c. search needs) (λ c. search needs) returns-3
-    (λ c κs. search needs) (λ c κs. search needs) (λ c κs. search needs) (λ c κs. search needs) (λ c. search needs) (λ c. search needs) returns-4
-    (λ c κs. search needs) (λ c. search needs) (λ c. search needs) returns-5
-    step-requires (λ c κs. search needs) (λ c. search needs) (λ c. search needs) returns-6
-    reply-requires (λ c. search needs) (λ c. search needs) (λ c. search needs) (λ c. search needs) returns-7)
+    (λ c κs. search needs) (λ c κs. search needs) (λ c. search needs) (λ c. search needs) returns-3
+    (λ c κs. search needs) (λ c. search needs) (λ c. search needs) returns-4
+    (λ c κs. search needs) (λ c κs. search needs) (λ c κs. search needs) (λ c κs. search needs) (λ c. search needs) (λ c. search needs) returns-5
+    (λ c κs. search needs) (λ c κs. search needs) (λ c. search needs) (λ c. search needs) returns-6
+    (λ c κs. search needs) (λ c. search needs) (λ c. search needs) returns-7
+    step-requires (λ c κs. search needs) (λ c. search needs) (λ c. search needs) returns-8
+    reply-requires (λ c κs. search needs) (λ c. search needs) (λ c. search needs) (λ c. search needs) returns-9)

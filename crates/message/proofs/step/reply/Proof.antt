@@ -18,7 +18,7 @@ put-reply-requires c κs =
     let s = start some in
     let n = least (s .pre .0) (some .if1 .left) in
     let m = most (s .pre .0) (some .if1 .left) in
-    (record { source = search needs; target = search needs; fits = omega (arith, s .pre .2) }, (omega arith, omega (arith, s .pre .1)))
+    (record { source = search needs; target = search needs; fits = omega (arith, s .pre .2) }, (omega arith, s .pre .1))
 
 add-result : tie.Need-add-result
 add-result c = let some = c .before .before .before .before .before .before in omega (arith, most (start some .pre .0) (some .if1 .left))

@@ -1,15 +1,16 @@
 -- One arm for each kind: its fields are read, and the step of its store is called. Assumes nothing.
-use Prim.Native.Nat.{ℕ, _<_}
+use Prim.Native.Nat.{ℕ, _<_, _≤_}
 use native.Mathlib.Omega.{arith}
 use mathlib.Core.Path.{_≡_, refl, sym, ap, _∙_, subst}
 use mathlib.Core.List.{List, _++_}
-use lib.ListN.{length, getD}
-use Rattle.octets.specs.Octets.{part, Bytes}
+use lib.ListN.{length}
+use Rattle.octets.specs.Octets.{Bytes}
 use Rattle.octets.specs.PartsLaws.{length-part, length-part-le, bytes-part}
-use Rattle.octets.specs.NumbersLaws.{num-lt}
 use Rattle.packet.specs.declared.label.Label as carried
+use Rattle.packet.specs.declared.header.Kind.{Kind}
 use Rattle.packet.specs.declared.header.Kind.the-variants.{Init, Chunk, Done, Read, Aborted, AckInit, AckChunk, AckDone}
-use Rattle.packet.specs.Frame.{has, replyFlag, initLength, chunkSize}
+use Rattle.packet.specs.Frame.{has, replyFlag, needed, initLength, initTopicSize, chunkSize}
+use Rattle.packet.specs.FieldsLaws.{number-lt, byte-lt, header-needed}
 use Rattle.machine.specs.Layout.{numberLimit, decode}
 use Rattle.machine.specs.Receive.{found, initStep}
 use Rattle.machine.specs.Refusals.{refusal}
@@ -34,14 +35,50 @@ stores c =
     let p = start c .pre in
     record { recv-bytes = λ i. s .before .slice-known .given i .fits; send-bytes = λ i. s .slice-known2 .given i .fits; recv = p .0; send = p .1 }
 
+-- all came that the kind needs: the header, and what a kind that was told needs
+header-came : (s : tie.Start) → 12 ≤ length (s .args .frame .now)
+header-came s = omega (arith, s .pre .2, header-needed (s .args .kind) (s .args .frame .now))
+
+came : (s : tie.Start) (k : Kind) → s .args .kind ≡ k → needed k (s .args .frame .now) ≤ length (s .args .frame .now)
+came s k told = let f = s .args .frame .now in subst (λ (x : Kind). needed x f ≤ length f) told (s .pre .2)
+
+id-requires : tie.Need-id-requires
+id-requires c κs = omega (arith, header-came (c .before .before .before .before))
+
 -- what an init says was read
 abbrev read : tie.After-length → tie.After-id
 read c = c .before .before .before .before .before .before .before .before .before
 
+id-sized : (c : tie.After-id) → length (c .id .result .now) ≡ 8
+id-sized c = ap length (c .id .ensures) ∙ length-part (start c .args .frame .now) 0 8 (omega (arith, header-came (start c)))
+
+-- the fields that each kind reads came
+flags-requires : tie.Need-flags-requires
+flags-requires c κs = omega (arith, header-came (start (c .before .before .before .before)))
+
+length-requires : tie.Need-length-requires
+length-requires c κs =
+    let told = c .before .before .before .before .before .before in
+    omega (arith, came (start (told .before .before)) Init (told .enum-told .given .1))
+
+topic-requires : tie.Need-topic-requires
+topic-requires c κs =
+    let told = c .before .before .before .before .before .before .before .before .before in
+    came (start (told .before .before)) Init (told .enum-told .given .1)
+
+chunk-came : (c : tie.After-enum-told2) → let f = start (c .before .before) .args .frame .now in needed Chunk f ≤ length f
+chunk-came c = came (start (c .before .before)) Chunk (c .enum-told2 .given .1)
+
+done-came : (c : tie.After-enum-told3) → 52 ≤ length (start (c .before .before) .args .frame .now)
+done-came c = came (start (c .before .before)) Done (c .enum-told3 .given .1)
+
+ack-index-requires : tie.Need-index-requires-2
+ack-index-requires c κs = let told = c .before in omega (arith, came (start (told .before .before)) AckChunk (told .enum-told7 .given .1))
+
 labelled-requires : tie.Need-labelled-requires
 labelled-requires c κs =
     let id = read c in
-    (ap length (id .id .ensures) ∙ length-part (start id .args .frame .now) 0 8 (omega (arith, start id .pre .2)), search needs, search needs)
+    (id-sized id, search needs, search needs)
 
 -- what an init says, as the code carries it
 abbrev said : tie.After-id → carried.Label
@@ -70,16 +107,18 @@ init-requires c κs =
     let id = read (made .before) in
     let f = start id .args .frame .now in
     let y = frame-bytes id in
+    let told = made .before .before .before .before .before .before .before .before in
+    let all = came (start id) Init (told .enum-told .given .1) in
     let n = made .labelled .ensures .1 in (
       start id .pre .0,
       record {
         id = n .id;
         source = n .source;
         destination = n .destination;
-        total = subst (λ (x : ℕ). x < numberLimit) (sym (ap (λ (l : carried.Label). l .total) (label-is made))) (num-lt 8 (part f 12 8) (bytes-part f 12 8 y));
+        total = subst (λ (x : ℕ). x < numberLimit) (sym (ap (λ (l : carried.Label). l .total) (label-is made))) (number-lt f 12 8 (omega (arith, all)) y);
         topic = (
-          omega (arith, ap length (c .topic .ensures), length-part-le f 21 (getD f 20 0), y 20),
-          subst Bytes (sym (c .topic .ensures)) (bytes-part f 21 (getD f 20 0) y),
+          omega (arith, ap length (c .topic .ensures), length-part-le f 21 (initTopicSize f), byte-lt f 20 (omega (arith, all)) y),
+          subst Bytes (sym (c .topic .ensures)) (bytes-part f 21 (initTopicSize f) y),
         );
       },
     )
@@ -118,7 +157,7 @@ returns-2 c =
     let told = index .before in
     let id = told .before .before in
     let f : List ℕ = start id .args .frame .now in
-    let size = ap length (piece .piece .ensures) ∙ length-part f 36 (chunkSize f) (omega (arith, start id .pre .2)) in
+    let size = ap length (piece .piece .ensures) ∙ length-part f 36 (chunkSize f) (omega (arith, chunk-came told)) in
     receives (P id) (stores id) Chunk (told .enum-told2 .given .1) refl
     (rw (← id .id .ensures, ← index .index .ensures, ← offset .offset .ensures, ← piece .piece .ensures, ← size) (chunk .chunk .ensures))
 
@@ -176,15 +215,16 @@ pub step-spec : {M : Type 1} → statement M
 step-spec =
     tie.close
     (tie.spec
-    (λ c κs. search needs)
-    (λ c. search needs) (λ c κs. search needs) (λ c κs. search needs) (λ c. search needs) (λ c. search needs) (λ c κs. search needs) labelled-requires
-    (λ c κs. search needs) init-requires
-    (λ c. search needs) (λ c κs. search needs) (λ c κs. search needs) (λ c κs. search needs) chunk-requires
-    (λ c. search needs) (λ c κs. search needs) (λ c κs. search needs) (λ c κs. search needs)
+    id-requires
+    (λ c. search needs) flags-requires (λ c κs. search needs) (λ c. search needs) (λ c. search needs) length-requires labelled-requires
+    topic-requires init-requires
+    (λ c. search needs) (λ c κs. omega (arith, chunk-came c)) (λ c κs. omega (arith, chunk-came (c .before))) (λ c κs. chunk-came (c .before .before))
+    chunk-requires
+    (λ c. search needs) (λ c κs. omega (arith, done-came c)) (λ c κs. omega (arith, done-came (c .before))) (λ c κs. search needs)
     (λ c. search needs) (λ c κs. search needs)
     (λ c. search needs) (λ c κs. search needs)
     (λ c. search needs) (λ c κs. search needs)
-    (λ c. search needs) (λ c κs. search needs) (λ c κs. search needs)
+    (λ c. search needs) ack-index-requires (λ c κs. search needs)
     (λ c. search needs) (λ c κs. search needs)
     (λ c. search needs)
     (λ c. search needs) returns (λ c. search needs) returns-2 (λ c. search needs) returns-3 (λ c. search needs) returns-4 (λ c. search needs) returns-5

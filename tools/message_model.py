@@ -74,6 +74,24 @@ def kind_of(flags):
     return None
 
 
+HEADER, INIT_FIELDS, CHUNK_FIELDS, DONE_BYTES = 12, 21, 36, 52
+MOST_FRAME = 1400
+
+
+def needed(frame):
+    """How many bytes a packet needs, by those that came: no fewer than the bytes that say so."""
+    if len(frame) < HEADER:
+        return HEADER
+    kind, is_ack = kind_of(frame[8]), frame[8] & ACK
+    if kind == CHUNK:
+        return CHUNK_FIELDS if is_ack or len(frame) < CHUNK_FIELDS else CHUNK_FIELDS + number(frame, 28)
+    if is_ack or kind not in (INIT, DONE):
+        return HEADER
+    if kind == DONE:
+        return DONE_BYTES
+    return INIT_FIELDS if len(frame) < INIT_FIELDS else INIT_FIELDS + frame[20]
+
+
 def header(key, flags):
     return key + bytes((flags, 0, 0, 0))
 
@@ -155,8 +173,10 @@ def top_of(length):
 def packet(recv, send, frame, source, to, rules, known, room=86):
     if not sound(recv, 1) or not sound(send, 2):
         return 25, [], 0
-    if len(frame) != 1400:
+    if not 1 <= len(frame) <= MOST_FRAME:
         return 1, [], 0
+    if len(frame) < needed(frame):
+        return 27, [], 0
     key, flags = frame[:8], frame[8]
     kind = kind_of(flags)
     if kind is None:
@@ -179,7 +199,7 @@ def packet(recv, send, frame, source, to, rules, known, room=86):
         return refusal, [], 0
     if flags & ACK:
         return 0, [], int(kind in (INIT, CHUNK))
-    kept = {INIT: 21, CHUNK: 36, DONE: 52}.get(kind)
+    kept = {INIT: INIT_FIELDS, CHUNK: CHUNK_FIELDS, DONE: DONE_BYTES}.get(kind)
     if not kept:
         return 0, [], 0
     return 0, [(to, source, frame[:8] + bytes((flags | ACK,)) + frame[9:kept])], 0
@@ -403,7 +423,7 @@ def fields(p):
 
 def arrive(node, source, to, p):
     print(f"{NAMES[source]} to {NAMES[to]}: {len(p)} bytes, id {number(p, 0)}, flags {p[8]:02x}{fields(p)}")
-    answer = packet(node["recv"], node["send"], p.ljust(1400, b"\0"), source, to, RULES, 1)
+    answer = packet(node["recv"], node["send"], p, source, to, RULES, 1)
     print("  packet" + said(*answer))
     return answer[1]
 
@@ -494,11 +514,11 @@ def keyed(n):
 
 
 def frame(n, flags, first=0, second=0, third=0):
-    return (header(keyed(n), flags) + struct.pack(">QQQ", first, second, third)).ljust(1400, b"\0")
+    return (header(keyed(n), flags) + struct.pack(">QQQ", first, second, third)).ljust(MOST_FRAME, b"\0")
 
 
 def done_frame(n, data):
-    return (header(keyed(n), DONE) + struct.pack(">Q", len(data)) + blake3(data)).ljust(1400, b"\0")
+    return (header(keyed(n), DONE) + struct.pack(">Q", len(data)) + blake3(data)).ljust(MOST_FRAME, b"\0")
 
 
 class Bench:
@@ -550,16 +570,74 @@ def values():
     b = Bench()
     for length in (256, 255):
         b.push(f"push, topic of {length}", 1, b"t" * length, b"")
+
+
+def cut(b, f, *lengths, **others):
+    """Of a frame and a byte behind it, so many come in."""
+    for n in lengths:
+        b.packet(f"  frame of {n}", (f + b"\xee")[:n], **others)
+
+
+def followed(f, n):
+    """A frame whose bytes from n on are no part of its packet."""
+    return f[:n].ljust(MOST_FRAME, b"\xee")
+
+
+def ready():
+    """Message 1 arrives with 300 bytes and leaves in state 1, 2 arrives with none, 3 leaves in state 0 and 4 in state 2."""
+    b = Bench(True)
+    b.quiet(frame(2, INIT))
+    b.pushed(3)
+    b.pushed(4)
+    b.quiet(frame(4, INIT | ACK))
+    b.quiet(frame(4, DONE | ACK))
+    return b
+
+
+def frames():
+    """Every length near a bound; what each kind needs; size fields; the refusals before 1 and 27, and behind them."""
+    most = 2 ** 64 - 1
+    for what, f, n in (("init", frame(5, INIT, 300), 21), ("chunk, size 0", frame(1, CHUNK, 1, 300), 36), ("done", done_frame(2, b""), 52),
+                       ("ack chunk", frame(1, CHUNK | ACK), 36), ("no kind", frame(1, 2), 12)):
+        print(what)
+        cut(ready(), followed(f, n), 0, 1, 11, 12, 20, 21, 35, 36, 51, 52, 1399, 1400, 1401)
+    for what, f, n in (
+            ("init, topic of 5", frame(5, INIT, 300, 0x0574 << 48), 26), ("chunk, size 250", frame(1, CHUNK, 0, 0, 250), 286),
+            ("done", done_frame(2, b""), 52), ("read", frame(4, READ), 12), ("aborted", frame(1, ABORTED), 12), ("ack init", frame(3, INIT | ACK), 12),
+            ("ack chunk, size 2^64 - 1", frame(1, CHUNK | ACK, 0, 0, most), 36), ("ack done", frame(1, DONE | ACK), 12),
+            ("ack init and chunk", frame(3, INIT | CHUNK | ACK), 12), ("ack chunk and done", frame(1, CHUNK | DONE | ACK), 36),
+            ("chunk and done, size 250", frame(1, CHUNK | DONE, 0, 0, 250), 286), ("init and chunk", frame(5, INIT | CHUNK), 21),
+            ("read and aborted", frame(4, READ | ABORTED), 12)):
+        print(what)
+        cut(ready(), followed(f, n), n - 1, n)
+        cut(ready(), followed(f, n), n + 1)
     b = Bench()
-    for length in (0, 1399, 1401):
-        b.packet(f"frame of {length}", b"\x80" * length)
-    b.packet("frame of 1400", frame(1, INIT, 250))
+    b.quiet(frame(5, INIT, 1400))
+    for what, size in (("2^64 - 1", most), ("2^64 - 36", 2 ** 64 - 36), ("2^64 - 37", 2 ** 64 - 37), ("1365", 1365), ("1364", 1364), ("1363", 1363)):
+        print(f"chunk, size {what}")
+        cut(b, followed(frame(5, CHUNK, 0, 0, size), 36), 36, 1399, 1400)
+    for store in ("receive", "send"):
+        print(f"init, bad {store} store")
+        b = Bench()
+        b.recv, b.send = ({}, b.send) if store == "receive" else (b.recv, {})
+        cut(b, frame(1, INIT, 1), 0, 11, 1401)
+    b = Bench()
+    print("chunk, size 2^64 - 1")
+    cut(b, frame(1, CHUNK, 0, 0, most), 0, 11, 1401)
+    print("init, run of 85")
+    cut(b, frame(1, INIT, 1), 0, 1, 20, 21, room=85)
+    print("no kind, run of 85")
+    cut(b, frame(1, 0), 11, 12, room=85)
+    print("init, malformed rules")
+    cut(b, frame(1, INIT, 1), 20, 21, rules=b"\x02")
+    print("chunk of an unknown id, size 250")
+    cut(b, frame(1, CHUNK, 0, 0, 250), 285, 286)
 
 
-def flags(what, held):
+def flags(what, held, length=MOST_FRAME):
     counts = {}
     for f in range(256):
-        refusal = Bench(held).arrives(frame(1, f))[0]
+        refusal = Bench(held).arrives(frame(1, f)[:length])[0]
         counts[refusal] = counts.get(refusal, 0) + 1
     print(what + "".join(f" {counts[n]} x {n}" for n in sorted(counts)))
 
@@ -786,8 +864,11 @@ def acks():
 
 def message_values():
     values()
+    frames()
     flags("flags, fresh stores:", False)
     flags("flags, arriving, and leaving in state 1:", True)
+    for length in (11, 12, 20, 21, 35, 36, 51, 52):
+        flags(f"  frames of {length}:", True, length)
     for group in (rooms, stores, sends, eight, sending_hours, inits, repeats, chunks, dones, acks):
         group()
 

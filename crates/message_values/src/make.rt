@@ -11,6 +11,14 @@ pub(crate) fn frame(key: u8, flags: u8, first: u64, second: u64, third: u64) -> 
     out
 }
 
+// The first n bytes of s, or all where it has fewer.
+pub(crate) fn start(s: &[u8], n: usize) -> &[u8] {
+    if n < s.len() {
+        return &s[0..n];
+    }
+    s
+}
+
 // The done of a message without bytes. The sum is the published one.
 pub(crate) fn empty_done(key: u8) -> [u8; 1400] {
     let mut out = frame(key, 0x40, 0, 0, 0);

@@ -1,4 +1,4 @@
-// Document 01's values that are no theorems, and frames of each length near the right one.
+// Document 01's values that are no theorems.
 
 use crate::ask;
 use crate::make;
@@ -33,17 +33,4 @@ pub(crate) fn topics(recv: &mut [u8; 37140], send: &mut [u8; 37140]) {
         0,
         &mut run,
     );
-}
-
-// Frames of 0, 1,399, 1,401 and 1,400 bytes.
-pub(crate) fn frames(recv: &mut [u8; 37140], send: &mut [u8; 37140]) {
-    let mut run = [0xeeu8; 86];
-    make::fresh(recv, send);
-    ask::packet(b"frame of 0", recv, send, b"", b"\0", 1, &mut run);
-    let shorter = [0x80u8; 1399];
-    ask::packet(b"frame of 1399", recv, send, &shorter, b"\0", 1, &mut run);
-    let longer = [0x80u8; 1401];
-    ask::packet(b"frame of 1401", recv, send, &longer, b"\0", 1, &mut run);
-    let right = make::frame(1, 0x80, 250, 0, 0);
-    ask::packet(b"frame of 1400", recv, send, &right, b"\0", 1, &mut run);
 }

@@ -20,11 +20,11 @@ pub(crate) fn arrive(
     rules: &[u8],
     reply: &mut [u8],
 ) -> u64 {
-    let frame = read::frame(run, a);
+    let frame = read::packet(run, a);
     let from = read::address(run, std::num::wrapping_add_usize(a, 2));
     let to = read::address(run, std::num::wrapping_add_usize(a, 18));
-    show::packet(run, a, &frame);
-    let got = message::packet(recv, send, &frame, &from, &to, rules, 1, reply);
+    show::packet(run, a, frame);
+    let got = message::packet(recv, send, frame, &from, &to, rules, 1, reply);
     show::say(b"  packet");
     show::answer(got);
     show::end();

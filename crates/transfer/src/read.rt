@@ -1,10 +1,8 @@
 // Reading of a run that asks nothing of it: past the end of the bytes stand zeros.
 
-ghost use Prim.Native.Nat.{_<_};
+ghost use Prim.Native.Nat.{_<_, _≤_};
 
-// The bytes of a frame, and of what stands before each packet of a run.
-pub(crate) const FRAME: usize = 1400;
-
+// The bytes of what stands before each packet of a run.
 pub(crate) const ENTRY: usize = 34;
 
 // The byte at a.
@@ -49,18 +47,19 @@ pub(crate) fn size(run: &[u8], a: usize) -> usize
     (number(run, a, 2) % 65536) as usize
 }
 
-// The frame of the packet whose entry stands at a: the packet, and zeros to 1,400 bytes.
-pub(crate) fn frame(run: &[u8], a: usize) -> [u8; 1400] {
-    let count = size(run, a);
-    let start = std::num::wrapping_add_usize(a, ENTRY);
-    let mut out = [0u8; 1400];
-    let mut i: usize = 0;
-    while i < FRAME {
-        if i >= count {
-            return out;
-        }
-        out[i] = byte(run, std::num::wrapping_add_usize(start, i));
-        i += 1;
+// The smaller of two sizes.
+fn least(a: usize, b: usize) -> usize
+    ensures { λ r. ⌜ (r ≤ a) × (r ≤ b) ⌝ }
+{
+    if a < b {
+        return a;
     }
-    out
+    b
+}
+
+// The packet whose entry stands at a: as many bytes as its count says, or those of them that the run has.
+pub(crate) fn packet(run: &[u8], a: usize) -> &[u8] {
+    let from = least(std::num::wrapping_add_usize(a, ENTRY), run.len());
+    let to = from + least(size(run, a), run.len() - from);
+    &run[from..to]
 }

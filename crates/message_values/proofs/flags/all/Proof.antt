@@ -7,10 +7,10 @@ use Rattle.message_values.proofs.flags.all.Statement.{statement}
 use Rattle.message_values.proofs.flags.all.Tie as tie
 
 abbrev Inv-loop : tie.InvT-loop
-Inv-loop what held counts₀ f₀ counts f = (f ≤ 256) × (length counts ≡ 27)
+Inv-loop what held n counts₀ f₀ counts f = (f ≤ 256) × (length counts ≡ 29)
 
 abbrev μ-loop : tie.MeasureT-loop
-μ-loop what held counts₀ f₀ counts f = 256 - f
+μ-loop what held n counts₀ f₀ counts f = 256 - f
 
 loop-again : tie.Need-loop-again Inv-loop μ-loop
 loop-again c = (search needs, simp length-set (search needs))

@@ -54,7 +54,8 @@ typedef struct {
 #define SOCKETLEMON_CLOCK 24
 #define SOCKETLEMON_UNSOUND_STORE 25
 #define SOCKETLEMON_BAD_CALENDAR 26
-#define SOCKETLEMON_REFUSALS 26
+#define SOCKETLEMON_SHORT_FRAME 27
+#define SOCKETLEMON_REFUSALS 27
 
 /* The bytes of a store with `cells` cells, 1 to 45. */
 #define SOCKETLEMON_STORE_BYTES(cells) (16 + 8 * 328 + 1380 * (size_t)(cells))
@@ -62,8 +63,8 @@ typedef struct {
 #define SOCKETLEMON_RECEIVE 1
 #define SOCKETLEMON_SEND 2
 
-/* The bytes of a frame, and of the run, report and address buffers that are always enough; take's data buffer needs 328
- * more than the message has. */
+/* The most bytes of a frame, and those of the run, report and address buffers that are always enough; take's data buffer
+ * needs 328 more than the message has. */
 #define SOCKETLEMON_FRAME 1400
 #define SOCKETLEMON_PACKET_RUN 86
 #define SOCKETLEMON_PUSH_RUN 310
@@ -86,7 +87,10 @@ socketlemon_answer socketlemon_setup(uint8_t *store, size_t store_len, uint64_t 
 socketlemon_answer socketlemon_address(const uint8_t *key, size_t key_len, uint8_t *out, size_t out_len);
 
 /* Handles a packet that came in from `from` (16 bytes) to `to` (16 bytes); `known` says whether the key of the source in
- * the id's record is known. An init equal in source, destination, length, topic and reply flag to the arriving message of
+ * the id's record is known. `frame` has the bytes received and no others, 1 to SOCKETLEMON_FRAME of them. A packet needs 12,
+ * an init 21 and its topic, a chunk 36 and as many as its size field says, a done 52; an acknowledgement needs 12, of a chunk
+ * 36. Where fewer came it is a short frame; what came behind them is not read.
+ * An init equal in source, destination, length, topic and reply flag to the arriving message of
  * its id is acknowledged and changes nothing; any other starts the message again. */
 socketlemon_answer socketlemon_packet(uint8_t *recv, size_t recv_len, uint8_t *send, size_t send_len, const uint8_t *frame, size_t frame_len,
                                       const uint8_t *from, const uint8_t *to, const uint8_t *rules, size_t rules_len, uint64_t known, uint8_t *run,

@@ -1,5 +1,5 @@
 /* Calls every export of the library from C, on a message of one piece that goes from a tablet to the office; then inits of a message
- * that has arrived in part, wakes within and outside of sending hours, and wakes of a message of ten pieces.
+ * that has arrived in part, wakes within and outside of sending hours, wakes of a message of ten pieces, and frames of every length.
  * Exits with 0 and a last line 'N passed, 0 failed' if every answer is the expected one. */
 #include <stdio.h>
 #include <string.h>
@@ -9,7 +9,8 @@
 enum { STORE = SOCKETLEMON_STORE_BYTES(4) };
 
 static uint8_t office[STORE], unused_send[STORE], tablet[STORE], unused_recv[STORE];
-static uint8_t run[SOCKETLEMON_WAKE_RUN], reply[SOCKETLEMON_PACKET_RUN], frame[SOCKETLEMON_FRAME];
+static uint8_t run[SOCKETLEMON_WAKE_RUN], reply[SOCKETLEMON_PACKET_RUN], frame[SOCKETLEMON_FRAME + 1];
+static size_t came; /* how many bytes of the frame came */
 static uint8_t data[SOCKETLEMON_TAKE_DATA], report[SOCKETLEMON_REPORT];
 static uint8_t here[16], there[16];
 static int passed, failed;
@@ -34,30 +35,36 @@ static int answers_pieces(socketlemon_answer a, uint64_t number, uint64_t run_le
 /* The answer of a call that sends no piece. */
 static int answers(socketlemon_answer a, uint64_t number, uint64_t run_len, uint64_t wake) { return answers_pieces(a, number, run_len, wake, 0); }
 
-/* The run's first packet as a frame. */
+/* The run's first packet as it comes in. */
 static void first_packet(const uint8_t *from_run) {
-    size_t n = from_run[0] * 256u + from_run[1];
-    memset(frame, 0, sizeof frame);
-    memcpy(frame, from_run + 34, n);
+    came = from_run[0] * 256u + from_run[1];
+    memcpy(frame, from_run + 34, came);
 }
 
 static uint8_t rules[1]; /* 0 accepts every topic, 1 none */
 
 static socketlemon_answer to_office(void) {
-    return socketlemon_packet(office, STORE, unused_send, STORE, frame, sizeof frame, there, here, rules, 1, 1, reply, sizeof reply);
+    return socketlemon_packet(office, STORE, unused_send, STORE, frame, came, there, here, rules, 1, 1, reply, sizeof reply);
 }
 
 static socketlemon_answer to_tablet(void) {
-    return socketlemon_packet(unused_recv, STORE, tablet, STORE, frame, sizeof frame, here, there, rules, 1, 1, reply, sizeof reply);
+    return socketlemon_packet(unused_recv, STORE, tablet, STORE, frame, came, here, there, rules, 1, 1, reply, sizeof reply);
 }
 
-static uint8_t init[SOCKETLEMON_FRAME], office_was[STORE], send_was[STORE];
+enum { INIT = 21 + 5 };
+static uint8_t init[INIT], office_was[STORE], send_was[STORE];
 
-/* Whether the office answers this frame with a number, and no byte of its stores changes. */
+/* An init in the frame. */
+static void init_of(const uint8_t *sent) {
+    memcpy(frame, sent, INIT);
+    came = INIT;
+}
+
+/* Whether the office answers this init with a number, and no byte of its stores changes. */
 static int keeps_stores(const uint8_t *sent, uint64_t number) {
     memcpy(office_was, office, STORE);
     memcpy(send_was, unused_send, STORE);
-    memcpy(frame, sent, sizeof frame);
+    init_of(sent);
     return answers(to_office(), number, number ? 0 : 34 + 21, 0) && memcmp(office, office_was, STORE) == 0 && memcmp(unused_send, send_was, STORE) == 0;
 }
 
@@ -71,18 +78,18 @@ static int changes_nothing(const uint8_t *sent) {
 /* A chunk of 250 zeros in the frame, at an index. */
 static void chunk_at(uint8_t index) {
     memset(frame + 8, 0, sizeof frame - 8);
-    frame[8] = 0x10, frame[19] = index, frame[35] = 250;
+    frame[8] = 0x10, frame[19] = index, frame[35] = 250, came = 36 + 250;
 }
 
 /* A done in the frame, with a count and no sum. */
 static void done_of(uint8_t count) {
     memset(frame + 8, 0, sizeof frame - 8);
-    frame[8] = 0x40, frame[19] = count;
+    frame[8] = 0x40, frame[19] = count, came = 52;
 }
 
 /* Makes a message of 300 bytes arrive in part: a piece in each of two slots, of which its init gave it one. */
 static int arrives_in_part(void) {
-    memcpy(frame, init, sizeof frame);
+    init_of(init);
     int right = answers(to_office(), 0, 55, 0);
     for (uint8_t index = 0; index < 2; index++) {
         chunk_at(index);
@@ -94,7 +101,7 @@ static int arrives_in_part(void) {
 /* Whether an init that differs in this byte starts the message again: its done then misses the one piece. */
 static int restarts(uint8_t *byte, uint8_t flip) {
     int right = arrives_in_part();
-    memcpy(frame, init, sizeof frame);
+    init_of(init);
     *byte ^= flip;
     right &= answers(to_office(), 0, 55, 0);
     *byte ^= flip;
@@ -103,7 +110,7 @@ static int restarts(uint8_t *byte, uint8_t flip) {
 }
 
 static void inits(void) {
-    uint8_t other[SOCKETLEMON_FRAME];
+    uint8_t other[INIT];
     expect("a message in part", arrives_in_part());
     expect("an equal init changes nothing", changes_nothing(init));
     memcpy(other, init, sizeof other);
@@ -246,7 +253,7 @@ static int is_acknowledged(uint8_t flags, uint8_t index) {
     memset(frame, 0, sizeof frame);
     memcpy(frame, id, sizeof id);
     frame[8] = flags, frame[19] = index;
-    return answers(socketlemon_packet(unused_recv, STORE, large, LARGE, frame, sizeof frame, here, there, rules, 1, 1, reply, sizeof reply), 0, 0, 1);
+    return answers(socketlemon_packet(unused_recv, STORE, large, LARGE, frame, 36, here, there, rules, 1, 1, reply, sizeof reply), 0, 0, 1);
 }
 
 /* Whether a cell was stamped with this clock and is else as it was. */
@@ -293,6 +300,105 @@ static void eight(void) {
                    memcmp(large, large_was, LARGE) == 0);
 }
 
+/* A frame of these flags and the numbers at bytes 12 and 28, with other bytes behind those that it needs. */
+static void frame_of(uint8_t flags, uint8_t number, uint64_t size, size_t needed) {
+    memset(frame, 0xee, sizeof frame);
+    memset(frame, 0, needed);
+    memcpy(frame, id, sizeof id);
+    frame[8] = flags, frame[19] = number;
+    for (int i = 0; needed >= 36 && i < 8; i++) frame[28 + i] = (uint8_t)(size >> 8 * (7 - i));
+}
+
+static uint8_t recv_was[STORE];
+
+/* What the stores answer to the first bytes of the frame. They are put back; `changed` says whether they were others. */
+static socketlemon_answer gets(uint8_t *recv, uint8_t *send, size_t len, size_t run_len, int *changed) {
+    memcpy(recv_was, recv, STORE);
+    memcpy(send_was, send, STORE);
+    socketlemon_answer a = socketlemon_packet(recv, STORE, send, STORE, frame, len, there, here, rules, 1, 1, reply, run_len);
+    *changed = memcmp(recv, recv_was, STORE) != 0 || memcmp(send, send_was, STORE) != 0;
+    memcpy(recv, recv_was, STORE);
+    memcpy(send, send_was, STORE);
+    return a;
+}
+
+/* Whether so many bytes of the frame are refused with a number, and no byte of the stores changes. */
+static int is_refused(uint8_t *recv, uint8_t *send, size_t len, uint64_t number) {
+    int changed, right = answers(gets(recv, send, len, sizeof reply, &changed), number, 0, 0);
+    return right && !changed;
+}
+
+/* Whether the frame is taken with so many bytes or more, up to 1,400, and with no others. */
+static int needs(uint8_t *recv, uint8_t *send, size_t needed) {
+    int right = is_refused(recv, send, 0, SOCKETLEMON_BAD_FRAME) && is_refused(recv, send, SOCKETLEMON_FRAME + 1, SOCKETLEMON_BAD_FRAME);
+    for (size_t len = 1; right && len <= SOCKETLEMON_FRAME; len++) {
+        int changed;
+        if (len < needed) right = is_refused(recv, send, len, SOCKETLEMON_SHORT_FRAME);
+        else right = gets(recv, send, len, sizeof reply, &changed).number == 0 && changed;
+    }
+    return right;
+}
+
+/* Whether a chunk with this size field is a short frame, whatever came. */
+static int is_never_enough(uint64_t size) {
+    int right = 1;
+    frame_of(0x10, 0, size, 36);
+    for (size_t len = 1; right && len <= SOCKETLEMON_FRAME; len++) right = is_refused(office, unused_send, len, SOCKETLEMON_SHORT_FRAME);
+    return right;
+}
+
+/* Frames of every length: of each kind on stores that wait for it, with sizes that no frame has, and among the other refusals. */
+static void frames(void) {
+    static const uint8_t message[300], empty_sum[32] = {0xaf, 0x13, 0x49, 0xb9, 0xf5, 0xf9, 0xa1, 0xa6, 0xa0, 0x40, 0x4d, 0xea, 0x36, 0xdc, 0xc9, 0x49,
+                                                        0x9b, 0xcb, 0x25, 0xc9, 0xad, 0xc1, 0x12, 0xb7, 0xcc, 0x9a, 0x93, 0xca, 0xe4, 0x1f, 0x32, 0x62};
+    int changed;
+    socketlemon_setup(office, STORE, SOCKETLEMON_RECEIVE), socketlemon_setup(tablet, STORE, SOCKETLEMON_SEND);
+    frame_of(0x80, 0, 0, INIT);
+    frame[18] = 5, frame[19] = 0x78, frame[20] = 5;
+    expect("an init needs 21 and its topic", needs(office, unused_send, INIT));
+    came = INIT;
+    expect("an init of 1,400 bytes", answers(to_office(), 0, 55, 0));
+    frame_of(0x10, 1, 250, 286);
+    expect("a chunk needs 36 and its piece", needs(office, unused_send, 286));
+    frame_of(0x50, 0, 1364, 1400);
+    expect("the largest needs 1,400", needs(office, unused_send, 1400));
+    expect("a larger size is never enough", is_never_enough(1365) && is_never_enough(UINT64_MAX - 36) && is_never_enough(UINT64_MAX - 35) &&
+                                                    is_never_enough(UINT64_MAX - 34) && is_never_enough(UINT64_MAX));
+    frame_of(0x20, 0, 0, 12);
+    expect("an aborted needs 12", needs(office, unused_send, 12));
+    frame_of(0x80, 0, 0, 21);
+    came = 21;
+    expect("an init of no bytes", answers(to_office(), 0, 55, 0));
+    frame_of(0x40, 0, 0, 52);
+    memcpy(frame + 20, empty_sum, sizeof empty_sum);
+    expect("a done needs 52", needs(office, unused_send, 52));
+
+    expect("push for frames", answers(socketlemon_push(tablet, STORE, id, 0, there, here, message, 5, message, sizeof message, 0, 0, run, sizeof run), 0, 60, 0));
+    frame_of(0x91, 0, 0, 12);
+    expect("an acknowledgement of an init needs 12", needs(unused_recv, tablet, 12));
+    came = 12;
+    expect("the init is acknowledged", answers(to_tablet(), 0, 0, 1));
+    frame_of(0x51, 0, UINT64_MAX, 36);
+    expect("of a chunk 36, whatever its size", needs(unused_recv, tablet, 36));
+    frame_of(0x41, 0, 0, 12);
+    expect("of a done 12", needs(unused_recv, tablet, 12));
+    came = 12;
+    expect("the done is acknowledged", answers(to_tablet(), 0, 0, 0));
+    frame_of(0x08, 0, 0, 12);
+    expect("a read needs 12", needs(unused_recv, tablet, 12));
+
+    frame_of(0x06, 0, 0, 12);
+    expect("27 before 20", is_refused(office, unused_send, 11, SOCKETLEMON_SHORT_FRAME) && is_refused(office, unused_send, 12, SOCKETLEMON_NO_WORK));
+    expect("20 before 2", answers(gets(office, unused_send, 12, 0, &changed), SOCKETLEMON_NO_WORK, 0, 0));
+    frame_of(0x40, 0, 0, 52);
+    expect("27 before 2", answers(gets(office, unused_send, 51, 0, &changed), SOCKETLEMON_SHORT_FRAME, 0, 0) &&
+                                  answers(gets(office, unused_send, 52, 0, &changed), SOCKETLEMON_SHORT_OUTPUT, 0, 0));
+    expect("1 before 2", answers(gets(office, unused_send, 0, 0, &changed), SOCKETLEMON_BAD_FRAME, 0, 0));
+    expect("25 before both", is_refused(tablet, unused_send, 0, SOCKETLEMON_UNSOUND_STORE) && is_refused(tablet, unused_send, 11, SOCKETLEMON_UNSOUND_STORE) &&
+                                     is_refused(office, unused_recv, 0, SOCKETLEMON_UNSOUND_STORE) &&
+                                     is_refused(office, unused_recv, 11, SOCKETLEMON_UNSOUND_STORE));
+}
+
 int main(void) {
     static const uint8_t message[300] = {42};
     uint8_t key[32] = {7};
@@ -309,6 +415,7 @@ int main(void) {
     expect("push", answers(socketlemon_push(tablet, STORE, id, 0, there, here, (const uint8_t *)"ducts", 5, message, sizeof message, 5000, 60000, run,
                                             sizeof run), 0, 60, 0));
     first_packet(run);
+    expect("the init's bytes", came == sizeof init);
     memcpy(init, frame, sizeof init);
     expect("init", answers(to_office(), 0, 55, 0));
     first_packet(reply);
@@ -341,6 +448,7 @@ int main(void) {
     hours();
     bad_calendars();
     eight();
+    frames();
     printf("%d passed, %d failed\n", passed, failed);
     return failed != 0;
 }

@@ -1,11 +1,12 @@
 /* Feeds random and mutated bytes, lengths, stores and numbers to every export, and checks of each answer: the number is one
  * of docs/PROTOCOL.md's, the run fits its buffer, bytes past what was written stay, and a refusal changed nothing. Of an init that
- * was accepted: an equal one has changed nothing either, and any other has left a fresh record. Of a wake: what its calendar says,
- * and which pieces it sends, counts and stamps, by the models here, which share nothing with the library.
+ * was accepted: an equal one has changed nothing either, and any other has left a fresh record. Of a frame: whether enough of it
+ * came, and that no more was read. Of a wake: what its calendar says, and which pieces it sends, counts and stamps, by the models
+ * here, which share nothing with the library.
  * Use: fuzz [SEED [ROUNDS [all]]]; under valgrind it also shows that nothing outside the buffers is touched, for each lies in an
  * allocation of its own. Exits with 0 if every answer was right and, with `all`, every refusal was met, both kinds of inits of a
- * message with pieces, every way to spoil a calendar, wakes that would have sent something, within hours and outside, and wakes
- * with more to send than they may. */
+ * message with pieces, frames of each kind at and around what they need, every way to spoil a calendar, wakes that would have sent
+ * something, within hours and outside, and wakes with more to send than they may. */
 #include <stdio.h>
 #include <stdlib.h>
 #include <string.h>
@@ -105,10 +106,65 @@ static void pick_id(uint8_t *at) {
     at[7] = (uint8_t)(below(3) ? below(3) : below(12));
 }
 
-/* An init as it came in. */
+static uint64_t number_at(const uint8_t *at) {
+    uint64_t n = 0;
+    for (int i = 0; i < 8; i++) n = n * 256 + at[i];
+    return n;
+}
+
+static void put_number(uint8_t *at, uint64_t n) {
+    for (int i = 8; i > 0; n >>= 8) at[--i] = (uint8_t)n;
+}
+
+/* What a packet is, by the first flag that fits; acknowledgements are of the first three. */
+enum { INIT, CHUNK, DONE, ACK_INIT, ACK_CHUNK, ACK_DONE, READ, ABORTED, NO_KIND, KINDS };
+
+static int kind_of(uint8_t flags) {
+    int of = flags & 1 ? ACK_INIT : INIT;
+    if (flags & 0x80) return of + INIT;
+    if (flags & 0x10) return of + CHUNK;
+    if (flags & 0x40) return of + DONE;
+    return flags & 1 ? NO_KIND : flags & 0x08 ? READ : flags & 0x20 ? ABORTED : NO_KIND;
+}
+
+/* How many bytes a packet needs, in the words of document 02, as far as those that came tell; a sum past 2^64 is the most. */
+static uint64_t needed(const uint8_t *frame, size_t len) {
+    switch (len > 8 ? kind_of(frame[8]) : NO_KIND) {
+    case INIT: return len > 20 ? 21u + frame[20] : 21;
+    case CHUNK: return len < 36 ? 36 : number_at(frame + 28) > UINT64_MAX - 36 ? UINT64_MAX : 36 + number_at(frame + 28);
+    case DONE: return 52;
+    case ACK_CHUNK: return 36;
+    default: return 12;
+    }
+}
+
+/* The refusal that a frame or its run buffer meets before those of its kind, or 0. */
+static uint64_t refused_first(buffer frame, buffer run) {
+    if (frame.len < 1 || frame.len > SOCKETLEMON_FRAME) return SOCKETLEMON_BAD_FRAME;
+    if (frame.len < needed(frame.at, frame.len)) return SOCKETLEMON_SHORT_FRAME;
+    if (kind_of(frame.at[8]) == NO_KIND) return SOCKETLEMON_NO_WORK;
+    return run.len < SOCKETLEMON_PACKET_RUN ? SOCKETLEMON_SHORT_OUTPUT : 0;
+}
+
+/* Frames that came in: of each kind a byte short of what it needs, with all, and with a byte more; of the lengths at which something
+ * changes; and with sizes to which 36 can just not be added in 64 bits, and just can. */
+enum { BELOW, EXACT, ABOVE, EDGES };
+static const size_t lengths[] = {0, 1, 11, 12, 20, 21, 35, 36, 51, 52, SOCKETLEMON_FRAME - 1, SOCKETLEMON_FRAME, SOCKETLEMON_FRAME + 1};
+enum { LENGTHS = sizeof lengths / sizeof *lengths };
+static unsigned long edges[KINDS][EDGES], at_length[LENGTHS], huge_sizes, rests;
+
+static void note(buffer frame) {
+    uint64_t needs = needed(frame.at, frame.len), edge = frame.len + 1 - needs;
+    if (frame.len > 8 && edge < EDGES) edges[kind_of(frame.at[8])][edge]++;
+    for (size_t i = 0; i < LENGTHS; i++) at_length[i] += frame.len == lengths[i];
+    huge_sizes += frame.len >= 36 && kind_of(frame.at[8]) == CHUNK && needs >= UINT64_MAX - 1;
+}
+
+/* An init as it came in; zeros behind it. */
 typedef struct {
     int there;
     uint8_t frame[SOCKETLEMON_FRAME], from[16], to[16];
+    size_t len;
 } arrival;
 
 static arrival last; /* the last init that was accepted */
@@ -141,19 +197,54 @@ static void accepted(buffer *stores, const arrival *init) {
     }
 }
 
+static int same_answer(socketlemon_answer a, socketlemon_answer b) {
+    return a.number == b.number && a.run == b.run && a.wake == b.wake && a.pieces == b.pieces;
+}
+
+/* Stores, a frame and all that comes with it. */
+typedef struct {
+    buffer *stores, frame, rules, run;
+    const uint8_t *from, *to;
+    uint64_t known;
+} packet_call;
+
+static socketlemon_answer call_packet(packet_call c) {
+    return socketlemon_packet(c.stores[0].at, c.stores[0].len, c.stores[1].at, c.stores[1].len, c.frame.at, c.frame.len, c.from, c.to, c.rules.at,
+                              c.rules.len, c.known, c.run.at, c.run.len);
+}
+
+/* A packet whose frame has bytes behind those that it needs does what it does without them. */
+static void without_rest(packet_call c, socketlemon_answer a) {
+    buffer twins[2] = {make(c.stores[0].len), make(c.stores[1].len)};
+    buffer run = make(c.run.len), frame = make((size_t)needed(c.frame.at, c.frame.len));
+    for (int i = 0; i < 2; i++) memcpy(twins[i].at, c.stores[i].was, twins[i].len);
+    memcpy(run.at, c.run.was, run.len), memcpy(frame.at, c.frame.at, frame.len);
+    socketlemon_answer b = call_packet((packet_call){twins, frame, c.rules, run, c.from, c.to, c.known});
+    expect("the rest of a frame", same_answer(a, b) && memcmp(run.at, c.run.at, run.len) == 0 && memcmp(twins[0].at, c.stores[0].at, twins[0].len) == 0 &&
+                                          memcmp(twins[1].at, c.stores[1].at, twins[1].len) == 0);
+    rests++;
+    drop(twins[0]), drop(twins[1]), drop(run), drop(frame);
+}
+
 static void packet_between(buffer *stores, buffer frame, const uint8_t *from, const uint8_t *to) {
-    buffer run = make(around(SOCKETLEMON_PACKET_RUN, 200)), rules = make(around(1, 60));
-    if (rules.len) rules.at[0] = (uint8_t)below(3);
-    keep(run), keep(stores[0]), keep(stores[1]);
-    socketlemon_answer a = socketlemon_packet(stores[0].at, stores[0].len, stores[1].at, stores[1].len, frame.at, frame.len, from, to, rules.at, rules.len, below(2), run.at, run.len);
-    answer("packet", a, run, 2, stores);
+    packet_call c = {stores, frame, make(around(1, 60)), make(around(SOCKETLEMON_PACKET_RUN, 200)), from, to, below(2)};
+    if (c.rules.len) c.rules.at[0] = (uint8_t)below(3);
+    keep(c.run), keep(stores[0]), keep(stores[1]), note(frame);
+    socketlemon_answer a = call_packet(c);
+    answer("packet", a, c.run, 2, stores);
     expect("a packet sends no piece", a.pieces == 0);
+    uint64_t first = refused_first(frame, c.run);
+    int is_first = a.number == SOCKETLEMON_BAD_FRAME || a.number == SOCKETLEMON_SHORT_FRAME || a.number == SOCKETLEMON_NO_WORK ||
+                   a.number == SOCKETLEMON_SHORT_OUTPUT;
+    expect("the frame of a packet", a.number == SOCKETLEMON_UNSOUND_STORE || (first ? a.number == first : !is_first));
+    if (a.number == 0 && frame.len > needed(frame.at, frame.len) && below(4) == 0) without_rest(c, a);
     if (a.number == 0 && (frame.at[8] & 0x81) == 0x80) {
-        last.there = 1;
-        memcpy(last.frame, frame.at, SOCKETLEMON_FRAME), memcpy(last.from, from, 16), memcpy(last.to, to, 16);
+        memset(&last, 0, sizeof last);
+        last.there = 1, last.len = frame.len;
+        memcpy(last.frame, frame.at, frame.len), memcpy(last.from, from, 16), memcpy(last.to, to, 16);
         accepted(stores, &last);
     }
-    drop(run), drop(rules);
+    drop(c.run), drop(c.rules);
 }
 
 static void packet(buffer *stores, buffer frame) { packet_between(stores, frame, there, here); }
@@ -161,7 +252,7 @@ static void packet(buffer *stores, buffer frame) { packet_between(stores, frame,
 /* The last init again, now and then with something changed. */
 static void repeated_init(buffer *stores) {
     arrival init = last;
-    switch (below(12)) {
+    switch (below(14)) {
     case 0: init.from[below(16)] ^= 1; break;
     case 1: init.to[below(16)] ^= 1; break;
     case 2: init.frame[19] ^= (uint8_t)(1 + below(3)); break;
@@ -169,35 +260,54 @@ static void repeated_init(buffer *stores) {
     case 4: init.frame[21] ^= 1; break;
     case 5: init.frame[8] ^= 4; break;
     case 6: init.frame[8] |= (uint8_t)next() & 0x7a, init.frame[9] = (uint8_t)next(), init.frame[11] = (uint8_t)next(); break;
+    case 7: init.len = (size_t)needed(init.frame, init.len) - below(2); break;
+    case 8: init.len = SOCKETLEMON_FRAME - below(2); break;
     default: break;
     }
-    buffer frame = make(SOCKETLEMON_FRAME);
-    memcpy(frame.at, init.frame, frame.len);
+    buffer frame = make(init.len);
+    memcpy(frame.at, init.frame, last.len < init.len ? last.len : init.len);
     packet_between(stores, frame, init.from, init.to);
     drop(frame);
 }
 
+/* A length for a frame with these bytes: mostly what it needs, one off or all there is, now and then one at which something changes,
+ * or anything. */
+static size_t pick_length(const uint8_t *bytes, size_t most) {
+    size_t needs = needed(bytes, most) < SOCKETLEMON_FRAME ? (size_t)needed(bytes, most) : SOCKETLEMON_FRAME;
+    switch (below(8)) {
+    case 0: return lengths[below(LENGTHS)];
+    case 1: return below(most + 1);
+    case 2: return needs - 1;
+    case 3: return needs + 1;
+    case 4: return SOCKETLEMON_FRAME;
+    default: return needs;
+    }
+}
+
 static void random_packet(buffer *stores) {
     static const uint8_t flags[] = {0x80, 0x10, 0x40, 0x20, 0x08, 0x81, 0x11, 0x41};
-    buffer frame = make(around(SOCKETLEMON_FRAME, 1500));
-    if (frame.len > 60 && below(8)) {
-        pick_id(frame.at);
-        frame.at[8] = below(4) ? flags[below(sizeof flags)] : (uint8_t)next();
-        memset(frame.at + 12, 0, 24);
-        frame.at[18] = (uint8_t)below(6), frame.at[19] = (uint8_t)below(8), frame.at[27] = (uint8_t)below(3), frame.at[34] = (uint8_t)below(6), frame.at[35] = (uint8_t)next();
+    static const uint64_t sizes[] = {UINT64_MAX, UINT64_MAX - 34, UINT64_MAX - 35, UINT64_MAX - 36, 1365, 1364};
+    buffer all = make(1500);
+    if (below(8)) {
+        pick_id(all.at);
+        all.at[8] = below(4) ? flags[below(sizeof flags)] : (uint8_t)next();
+        memset(all.at + 12, 0, 24);
+        all.at[18] = (uint8_t)below(6), all.at[19] = (uint8_t)below(8), all.at[27] = (uint8_t)below(3), all.at[34] = (uint8_t)below(6), all.at[35] = (uint8_t)next();
+        if (below(16) == 0) put_number(all.at + 28, sizes[below(sizeof sizes / sizeof *sizes)]);
     }
+    buffer frame = make(pick_length(all.at, all.len));
+    if (frame.len) memcpy(frame.at, all.at, frame.len);
     packet(stores, frame);
-    drop(frame);
+    drop(frame), drop(all);
 }
 
 /* The packets of a run, each handed to the stores that sent it: a node that talks to itself. */
 static void loop_back(buffer *stores, const uint8_t *run, size_t len) {
     for (size_t at = 0; at + 34 <= len;) {
         size_t n = run[at] * 256u + run[at + 1];
-        buffer frame = make(SOCKETLEMON_FRAME);
-        memset(frame.at, 0, frame.len);
-        memcpy(frame.at, run + at + 34, n <= frame.len ? n : frame.len);
-        if (below(12) == 0) frame.at[below(60)] ^= 1;
+        buffer frame = make(below(12) ? n : n - 1 + below(3));
+        memcpy(frame.at, run + at + 34, n < frame.len ? n : frame.len);
+        if (below(12) == 0) frame.at[below(frame.len < 60 ? frame.len : 60)] ^= 1;
         if (below(5)) packet(stores, frame);
         frame.at[8] |= 1;
         if (below(3)) packet(stores, frame);
@@ -361,10 +471,6 @@ static buffer pick_hours(uint64_t *unix_ms) {
     return c;
 }
 
-static int same_answer(socketlemon_answer a, socketlemon_answer b) {
-    return a.number == b.number && a.run == b.run && a.wake == b.wake && a.pieces == b.pieces;
-}
-
 /* The pieces that want sending, of which the first eight are sent, in the words of document 02. */
 typedef struct {
     uint64_t stamp;
@@ -375,12 +481,6 @@ typedef struct {
 
 /* Wakes that had more to send than eight, and of those that sent any: with pieces of both kinds, with stamps that differ. */
 static unsigned long full_wakes, mixed_wakes, aged_wakes;
-
-static uint64_t number_at(const uint8_t *at) {
-    uint64_t n = 0;
-    for (int i = 0; i < 8; i++) n = n * 256 + at[i];
-    return n;
-}
 
 static int goes_before(piece a, piece b) {
     if (a.sent != b.sent) return b.sent;
@@ -556,8 +656,14 @@ int main(int argc, char **argv) {
     for (int way = 0; way < WAYS; way++) ways += spoiled[way] > 0;
     printf("%lu answers right, %lu wrong; %d of %d refusals met; inits of messages with pieces: %lu equal, %lu others\n", passed, failed, refusals,
            SOCKETLEMON_REFUSALS, equal_inits, other_inits);
+    unsigned long edges_met = 0, lengths_met = 0;
+    for (int i = 0; i < KINDS * EDGES; i++) edges_met += edges[i / EDGES][i % EDGES] > 0;
+    for (int i = 0; i < LENGTHS; i++) lengths_met += at_length[i] > 0;
+    printf("frames a byte short, exact and a byte longer: %lu of %d met; lengths: %lu of %d; sizes near 2^64: %lu; with a rest that is not read: %lu\n",
+           edges_met, KINDS * EDGES, lengths_met, LENGTHS, huge_sizes, rests);
     printf("wakes with something to send: %lu outside hours, %lu within a window; calendars spoiled in %lu of %d ways\n", shut_wakes, open_wakes, ways, WAYS);
     printf("wakes with more to send than eight: %lu; that sent new and due pieces: %lu; due ones of several stamps: %lu\n", full_wakes, mixed_wakes, aged_wakes);
     int wakes = shut_wakes && open_wakes && full_wakes && mixed_wakes && aged_wakes;
-    return failed != 0 || refusals < wanted || (wanted && !(equal_inits && other_inits && wakes && ways == WAYS));
+    int frames = edges_met == KINDS * EDGES && lengths_met == LENGTHS && huge_sizes && rests;
+    return failed != 0 || refusals < wanted || (wanted && !(equal_inits && other_inits && frames && wakes && ways == WAYS));
 }

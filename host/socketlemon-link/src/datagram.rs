@@ -9,6 +9,8 @@ const HEAD: usize = 2 * ADDRESS;
 /// The most bytes of a datagram.
 pub const MOST: usize = HEAD + FRAME;
 
+/// The bytes of a packet's header, and where its flags are.
+const HEADER: usize = 12;
 const FLAGS: usize = 8;
 const INIT: u8 = 0x80;
 const DONE: u8 = 0x40;
@@ -36,13 +38,16 @@ pub enum Content {
 }
 
 impl Content {
-    /// The content of a packet in its frame, by the first flag that fits.
-    pub fn of(frame: &[u8; FRAME]) -> Content {
-        match frame[FLAGS] {
-            flags if flags & INIT != 0 => Content::Init,
-            // an index that is kept is below 256
-            flags if flags & CHUNK != 0 => Content::Piece(usize::from(frame[INDEX])),
-            flags if flags & DONE != 0 => Content::Done,
+    /// The content of a packet, by the first flag that fits.
+    pub fn of(packet: &[u8]) -> Content {
+        match packet.get(FLAGS) {
+            Some(flags) if flags & INIT != 0 => Content::Init,
+            Some(flags) if flags & CHUNK != 0 => match packet.get(INDEX) {
+                // an index that is kept is below 256
+                Some(index) => Content::Piece(usize::from(*index)),
+                None => Content::Other,
+            },
+            Some(flags) if flags & DONE != 0 => Content::Done,
             _ => Content::Other,
         }
     }
@@ -69,15 +74,15 @@ impl fmt::Display for Dropped {
     }
 }
 
-/// A packet that arrived, in its frame.
+/// A packet that arrived.
 #[derive(Clone, Debug)]
 pub struct Arrived {
     /// The address that it says it comes from.
     pub from: Address,
     /// The address that it goes to.
     pub to: Address,
-    /// The packet, filled up with zeros.
-    pub frame: [u8; FRAME],
+    /// The packet, as much of it as came: at most [`FRAME`] bytes.
+    pub frame: Vec<u8>,
 }
 
 impl Arrived {
@@ -90,42 +95,41 @@ impl Arrived {
         if packet.len() > FRAME {
             return Err(Dropped::TooLong);
         }
-        let (mut from, mut to, mut frame) = ([0; ADDRESS], [0; ADDRESS], [0; FRAME]);
+        let (mut from, mut to) = ([0; ADDRESS], [0; ADDRESS]);
         from.copy_from_slice(&head[..ADDRESS]);
         to.copy_from_slice(&head[ADDRESS..]);
-        frame[..packet.len()].copy_from_slice(packet);
         if Address(to) != own {
             return Err(Dropped::NotOurs);
         }
-        Ok(Arrived { from: Address(from), to: Address(to), frame })
+        Ok(Arrived { from: Address(from), to: Address(to), frame: packet.to_vec() })
     }
 
     /// An aborted packet for an id, from an address to itself.
     pub fn aborted(id: Id, own: Address) -> Arrived {
-        let mut frame = [0; FRAME];
+        let mut frame = vec![0; HEADER];
         frame[..FLAGS].copy_from_slice(&id.0);
         frame[FLAGS] = ABORTED;
         Arrived { from: own, to: own, frame }
     }
 
-    /// The id of the message that it is about.
-    pub fn id(&self) -> Id {
-        let mut id = [0; FLAGS];
-        id.copy_from_slice(&self.frame[..FLAGS]);
-        Id(id)
+    /// The id of the message that it is about, if it came.
+    pub fn id(&self) -> Option<Id> {
+        self.frame.get(..FLAGS)?.try_into().ok().map(Id)
     }
 
-    /// Whether it is a done, without ack.
+    /// Whether it is a done, without ack and with all its bytes.
     pub fn is_done(&self) -> bool {
-        Content::of(&self.frame) == Content::Done && self.frame[FLAGS] & ACK == 0
+        self.done_acknowledgement().is_some()
     }
 
-    /// What acknowledges this packet if it is a done: its own first bytes with the ack flag.
-    pub fn done_acknowledgement(&self) -> [u8; DONE_BYTES] {
-        let mut reply = [0; DONE_BYTES];
-        reply.copy_from_slice(&self.frame[..DONE_BYTES]);
+    /// What acknowledges this packet, if it is a done: its own first bytes with the ack flag.
+    pub fn done_acknowledgement(&self) -> Option<[u8; DONE_BYTES]> {
+        let mut reply: [u8; DONE_BYTES] = self.frame.get(..DONE_BYTES)?.try_into().ok()?;
+        if Content::of(&reply) != Content::Done || reply[FLAGS] & ACK != 0 {
+            return None;
+        }
         reply[FLAGS] |= ACK;
-        reply
+        Some(reply)
     }
 }
 
@@ -147,8 +151,7 @@ mod tests {
             let datagram = write(&Packet { from: Address([5; 16]), to: OWN, bytes: &bytes });
             let arrived = Arrived::read(&datagram, OWN).expect("a datagram");
             assert_eq!((arrived.from, arrived.to), (Address([5; 16]), OWN));
-            assert_eq!(arrived.frame[..length], bytes);
-            assert!(arrived.frame[length..].iter().all(|byte| *byte == 0));
+            assert_eq!(arrived.frame, bytes, "no byte more");
         }
     }
 
@@ -167,8 +170,8 @@ mod tests {
 
     #[test]
     fn dones_are_told_from_the_rest() {
-        let mut arrived = Arrived::aborted(Id([1; 8]), OWN);
-        assert_eq!(arrived.id(), Id([1; 8]));
+        let frame = [[1; 8].as_slice(), &[0; DONE_BYTES - 8]].concat();
+        let mut arrived = Arrived { from: OWN, to: OWN, frame };
         let is_done = |flags: &u8| {
             arrived.frame[8] = *flags;
             arrived.is_done()
@@ -179,9 +182,36 @@ mod tests {
     }
 
     #[test]
+    fn what_has_not_come_is_not_there() {
+        let done = [&[1; 8][..], &[DONE], &[2; DONE_BYTES - 8]].concat();
+        let arrived = |length: usize| Arrived { from: OWN, to: OWN, frame: done[..length].to_vec() };
+        for length in 0..=done.len() {
+            assert_eq!(arrived(length).id(), (length >= 8).then_some(Id([1; 8])), "{length} bytes");
+            assert_eq!(arrived(length).is_done(), length >= DONE_BYTES, "{length} bytes");
+        }
+        let reply = [&done[..8], &[DONE | ACK], &done[9..DONE_BYTES]].concat();
+        assert_eq!(
+            arrived(done.len()).done_acknowledgement().as_ref().map(|bytes| &bytes[..]),
+            Some(&reply[..])
+        );
+        let chunk = [&[1; 8][..], &[CHUNK], &[0; 10], &[7]].concat();
+        assert_eq!(Content::of(&chunk), Content::Piece(7));
+        for length in 0..chunk.len() {
+            assert_eq!(Content::of(&chunk[..length]), Content::Other, "{length} bytes");
+        }
+    }
+
+    #[test]
+    fn an_aborted_packet_has_all_that_it_needs() {
+        let arrived = Arrived::aborted(Id([1; 8]), OWN);
+        assert_eq!((arrived.id(), arrived.is_done()), (Some(Id([1; 8])), false));
+        assert_eq!(arrived.frame, [1, 1, 1, 1, 1, 1, 1, 1, 0x20, 0, 0, 0]);
+    }
+
+    #[test]
     fn the_first_flag_that_fits_is_the_content() {
         let of = |flags: u8| {
-            let mut frame = [0; FRAME];
+            let mut frame = [0; 36];
             frame[8] = flags;
             frame[19] = 24;
             Content::of(&frame)

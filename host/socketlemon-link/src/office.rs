@@ -165,10 +165,10 @@ impl Office {
     /// Notes a packet that was accepted, and keeps what it has changed.
     fn accepted(&mut self, arrived: &Arrived, peer: SocketAddr) -> Result<(), Failure> {
         self.peers.heard(arrived.from, peer);
-        self.silence.heard(arrived.id(), Instant::now());
-        if arrived.is_done() {
-            self.kept.receipts.keep(arrived);
+        if let Some(id) = arrived.id() {
+            self.silence.heard(id, Instant::now());
         }
+        self.kept.receipts.keep(arrived);
         self.kept.save()
     }
 
@@ -176,8 +176,7 @@ impl Office {
     fn refused(&mut self, arrived: &Arrived, refusal: Refusal, peer: SocketAddr) -> Result<(), Failure> {
         // making room may have changed the store all the same
         self.kept.save()?;
-        let receipt = if arrived.is_done() { self.kept.receipts.find(arrived) } else { None };
-        match receipt {
+        match self.kept.receipts.find(arrived) {
             Some(packet) => self.port.send(&packet, peer),
             None => self.counts.refuse(refusal),
         }
@@ -194,7 +193,7 @@ impl Office {
 
     /// The arriving record of a packet's id.
     fn record(&self, arrived: &Arrived) -> Option<Record> {
-        let id = arrived.id();
+        let id = arrived.id()?;
         self.kept.store.records().find(|record| record.kind == Kind::Arriving && record.id == id)
     }
 

@@ -22,17 +22,19 @@ type Receipt = [u8; BYTES];
 pub struct Receipts(VecDeque<Receipt>);
 
 impl Receipts {
-    /// Keeps the receipt of a done that was acknowledged, and lets go of the oldest if there are too many.
+    /// Keeps the receipt of a packet that was acknowledged, if it is a done, and lets go of the oldest if there are too many.
     pub fn keep(&mut self, done: &Arrived) {
-        if self.0.len() == MOST {
-            self.0.pop_front();
+        if let Some(receipt) = receipt(done) {
+            if self.0.len() == MOST {
+                self.0.pop_front();
+            }
+            self.0.push_back(receipt);
         }
-        self.0.push_back(receipt(done));
     }
 
     /// The acknowledgement of a done that was acknowledged before, to the last byte.
     pub fn find(&self, done: &Arrived) -> Option<Packet<'_>> {
-        let wanted = receipt(done);
+        let wanted = receipt(done)?;
         self.0.iter().find(|kept| **kept == wanted).map(|kept| Packet {
             from: done.to,
             to: done.from,
@@ -62,23 +64,22 @@ impl Receipts {
     }
 }
 
-fn receipt(done: &Arrived) -> Receipt {
+fn receipt(done: &Arrived) -> Option<Receipt> {
     let mut receipt = [0; BYTES];
     let Address(from) = done.to;
     let Address(to) = done.from;
     receipt[..ADDRESS].copy_from_slice(&from);
     receipt[ADDRESS..2 * ADDRESS].copy_from_slice(&to);
-    receipt[2 * ADDRESS..].copy_from_slice(&done.done_acknowledgement());
-    receipt
+    receipt[2 * ADDRESS..].copy_from_slice(&done.done_acknowledgement()?);
+    Some(receipt)
 }
 
 #[cfg(test)]
 mod tests {
     use super::*;
-    use socketlemon::FRAME;
 
     fn done(id: u8) -> Arrived {
-        let mut frame = [0; FRAME];
+        let mut frame = vec![0; DONE_BYTES];
         frame[..8].copy_from_slice(&[id; 8]);
         frame[8] = 0x40;
         frame[12..52].copy_from_slice(&[id; 40]);
@@ -101,6 +102,23 @@ mod tests {
             assert_eq!(receipts.find(&other), None, "byte {place} differs");
         }
         assert_eq!(receipts.find(&Arrived { from: Address([6; 16]), ..done(1) }), None);
+    }
+
+    #[test]
+    fn the_bytes_behind_a_done_do_not_count_and_a_cut_one_is_none() {
+        let mut receipts = Receipts::default();
+        let (mut longer, mut cut) = (done(1), done(1));
+        longer.frame.push(9);
+        cut.frame.pop();
+        receipts.keep(&cut);
+        assert_eq!(receipts, Receipts::default());
+        receipts.keep(&done(1));
+        assert_eq!(receipts.find(&longer), receipts.find(&done(1)));
+        assert_eq!(receipts.find(&cut), None);
+        let mut other = done(2);
+        other.frame[8] = 0x80;
+        receipts.keep(&other);
+        assert_eq!(receipts.to_bytes().len(), BYTES, "an init has no receipt");
     }
 
     #[test]

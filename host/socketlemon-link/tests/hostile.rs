@@ -65,15 +65,19 @@ impl Tablet {
 
     /// Sends init and chunk, which are acknowledged. Gives them, and the done that is next.
     fn send_all(&mut self, voice: &Voice) -> [Vec<u8>; 3] {
-        let calendar = Calendar::always();
         let mut packets = [self.init.clone(), Vec::new(), Vec::new()];
         for number in 0..2 {
             let acknowledgement = self.ask(voice, &packets[number]).expect("an acknowledgement");
             self.take(&acknowledgement);
-            let wake = Wake::Send { clock_ms: 100 * number as u64, calendar: &calendar, unix_ms: 0 };
-            packets[number + 1] = only(self.send.wake(wake, ID, &mut [0; LONGEST_RUN]).expect("wake"));
+            packets[number + 1] = self.wake(100 * number as u64);
         }
         packets
+    }
+
+    /// The one packet that it sends at a clock.
+    fn wake(&mut self, clock_ms: u64) -> Vec<u8> {
+        let wake = Wake::Send { clock_ms, calendar: &Calendar::always(), unix_ms: 0 };
+        only(self.send.wake(wake, ID, &mut [0; LONGEST_RUN]).expect("wake"))
     }
 
     /// The office's answer to a packet.
@@ -138,9 +142,39 @@ fn noise_does_not_stop_the_office() {
     assert_eq!(output.status.code(), Some(0), "{output:?}");
     hostile.join().expect("the hostile sender");
     let counts = office.line(|line| line.starts_with("dropped: ") && !line.contains("dropped: none"));
-    for reason in ["too short", "too long", "to another address", "unknown id"] {
+    for reason in ["too short", "too long", "to another address", "unknown id", "short frame"] {
         assert!(counts.contains(reason), "{reason:?} is not in {counts:?}");
     }
+    assert_eq!(office.end(), Some(0));
+    assert!(folder.surveys() == [data]);
+}
+
+#[test]
+fn a_packet_that_is_cut_counts_as_lost() {
+    let folder = Folder::new();
+    introduce(&folder);
+    let mut office = Office::start(&folder, "[::1]:0", &["--count", "1"]);
+    let voice = Voice::to(&office);
+    let data = survey(1_300, 0);
+    let mut tablet = Tablet::push(&folder, &voice, &data);
+    let mut packet = tablet.init.clone();
+    let cuts = |packet: &[u8]| [1, 7, 8, 11, 12, 20, packet.len() - 1];
+    for flags in [0x80, 0x10, 0x40] {
+        assert_eq!(packet[8], flags);
+        cuts(&packet).into_iter().for_each(|length| voice.send(tablet.own, &packet[..length]));
+        // nobody answers what is cut: this is the answer to the whole packet
+        let answer = tablet.ask(&voice, &packet).expect("an answer");
+        assert_eq!(answer.frame[8], flags | 0x01);
+        tablet.take(&answer);
+        if flags != 0x40 {
+            packet = tablet.wake(0);
+        }
+    }
+    assert_eq!(voice.receive(tablet.own).expect("the read packet").frame[8], 0x08);
+    // nor does a done that is cut get the receipt of the whole one
+    cuts(&packet).into_iter().for_each(|length| voice.send(tablet.own, &packet[..length]));
+    let counted = format!("dropped: none; refused: {} short frame", 4 * cuts(&packet).len());
+    office.line(|line| line == counted);
     assert_eq!(office.end(), Some(0));
     assert!(folder.surveys() == [data]);
 }

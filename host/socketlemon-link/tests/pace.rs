@@ -56,9 +56,9 @@ impl Tablet {
 
     /// Acknowledges a packet.
     fn acknowledge(&self, arrived: &Arrived) {
-        let mut frame = arrived.frame;
+        let mut frame = arrived.frame.clone();
         frame[8] |= ACK;
-        let bytes = datagram::write(&Packet { from: OFFICE, to: arrived.from, bytes: &frame[..52] });
+        let bytes = datagram::write(&Packet { from: OFFICE, to: arrived.from, bytes: &frame });
         self.socket.send_to(&bytes, self.at.expect("where the tablet is")).expect("an acknowledgement");
     }
 }

@@ -103,7 +103,7 @@ impl Office {
         let arrived = Arrived::read(bytes, OFFICE).expect("a datagram");
         let is_late = arrived.frame[8] == INIT && self.has_piece;
         if is_late && self.init == Init::Restarts {
-            let dropped = Arrived::aborted(arrived.id(), OFFICE);
+            let dropped = Arrived::aborted(ID, OFFICE);
             self.side.packet(&dropped, true, &mut [0; PACKET_RUN]).expect("an arriving message");
         }
         let before = self.side.receive.clone();
@@ -115,10 +115,7 @@ impl Office {
         }
         match answer {
             Ok(length) => self.accepted(&arrived, &run[..length]),
-            Err(_) if arrived.is_done() => {
-                self.receipts.find(&arrived).iter().for_each(|packet| self.side.put(packet))
-            }
-            Err(_) => {}
+            Err(_) => self.receipts.find(&arrived).iter().for_each(|packet| self.side.put(packet)),
         }
     }
 
@@ -126,9 +123,9 @@ impl Office {
     fn accepted(&mut self, arrived: &Arrived, run: &[u8]) {
         self.side.put_all(run);
         self.has_piece |= arrived.frame[8] == CHUNK;
+        self.receipts.keep(arrived);
         if arrived.is_done() {
             self.has_piece = false;
-            self.receipts.keep(arrived);
             let (taken, _) = self.side.receive.take(&mut [0; PACKET_RUN]).expect("a survey");
             self.surveys.push(taken.data);
         }

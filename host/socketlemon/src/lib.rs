@@ -7,7 +7,7 @@
 //! # A message from a tablet to the office
 //!
 //! ```
-//! use socketlemon::{Address, Arrival, Calendar, Id, Packet, Push, Refusal, Role, Rules, State, Store, Wake, FRAME, LONGEST_RUN};
+//! use socketlemon::{Address, Arrival, Calendar, Id, Packet, Push, Refusal, Role, Rules, State, Store, Wake, LONGEST_RUN};
 //!
 //! // each side has two stores and an address, which comes from its key
 //! struct Side { receive: Store, send: Store, rules: Rules }
@@ -19,9 +19,8 @@
 //!
 //!     // hands over a packet and gives back the bytes of the run that answers it
 //!     fn packet(&mut self, packet: Packet<'_>) -> Result<Vec<u8>, Refusal> {
-//!         let mut frame = [0; FRAME];
-//!         frame[..packet.bytes.len()].copy_from_slice(packet.bytes);
-//!         let arrival = Arrival { frame: &frame, from: packet.from, to: packet.to, rules: &self.rules, known: true };
+//!         let Packet { from, to, bytes } = packet;
+//!         let arrival = Arrival { frame: bytes, from, to, rules: &self.rules, known: true };
 //!         let mut run = [0; LONGEST_RUN];
 //!         let answer = self.receive.packet(&mut self.send, &arrival, &mut run)?;
 //!         Ok(answer.run.as_bytes().to_vec())
@@ -94,7 +93,7 @@ pub use rules::{Rules, RulesError, Subnet};
 pub use run::{Packet, Packets, Run};
 pub use store::{Answer, Arrival, Push, Role, Store, Wake};
 
-/// The bytes of a frame: the whole receive buffer for a packet.
+/// The most bytes of a frame: no packet is longer.
 pub const FRAME: usize = 1_400;
 
 /// The most bytes of a message.

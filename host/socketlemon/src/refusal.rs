@@ -7,7 +7,7 @@ use std::fmt;
 /// `Display` gives the trade word; docs/PROTOCOL.md says when each is answered.
 #[derive(Clone, Copy, Debug, PartialEq, Eq, Hash)]
 pub enum Refusal {
-    /// 1: the frame is not 1,400 bytes, or the key not 32.
+    /// 1: the frame is not 1 to 1,400 bytes, or the key not 32.
     BadFrame,
     /// 2: an output buffer is too short.
     ShortOutput,
@@ -59,12 +59,14 @@ pub enum Refusal {
     UnsoundStore,
     /// 26: the calendar is malformed. A [`Calendar`](crate::Calendar) never is.
     BadCalendar,
+    /// 27: fewer bytes came than the packet needs.
+    ShortFrame,
     /// A number that this crate has no name for. The library has none such; a newer one might.
     Other(u64),
 }
 
 /// Each refusal with its trade word; the first is number 1.
-const TABLE: [(Refusal, &str); 26] = [
+const TABLE: [(Refusal, &str); 27] = [
     (Refusal::BadFrame, "bad frame"),
     (Refusal::ShortOutput, "short output"),
     (Refusal::BadRules, "bad rules"),
@@ -91,6 +93,7 @@ const TABLE: [(Refusal, &str); 26] = [
     (Refusal::Clock, "clock"),
     (Refusal::UnsoundStore, "unsound store"),
     (Refusal::BadCalendar, "bad calendar"),
+    (Refusal::ShortFrame, "short frame"),
 ];
 
 impl Refusal {
@@ -103,7 +106,7 @@ impl Refusal {
         Some(row.map_or(Refusal::Other(number), |(refusal, _)| *refusal))
     }
 
-    /// Its number, 1 to 26.
+    /// Its number, 1 to 27.
     pub fn number(self) -> u64 {
         match (self, self.row()) {
             (Refusal::Other(number), _) => number,
@@ -132,7 +135,7 @@ mod tests {
     use super::*;
 
     /// The trade words of docs/PROTOCOL.md, copied from there and not from the code.
-    const WORDS: [&str; 26] = [
+    const WORDS: [&str; 27] = [
         "bad frame",
         "short output",
         "bad rules",
@@ -159,6 +162,7 @@ mod tests {
         "clock",
         "unsound store",
         "bad calendar",
+        "short frame",
     ];
 
     #[test]
@@ -178,7 +182,7 @@ mod tests {
 
     #[test]
     fn other_numbers_have_words_too() {
-        for n in [27, 255, u64::MAX] {
+        for n in [28, 255, u64::MAX] {
             let refusal = Refusal::from_number(n).expect("a refusal");
             assert_eq!(refusal, Refusal::Other(n));
             assert_eq!(refusal.number(), n);

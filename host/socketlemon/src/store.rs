@@ -201,7 +201,8 @@ fn done(answer: ffi::Answer) -> Result<(), Refusal> {
 /// A packet that arrived, with all that the host knows of it.
 #[derive(Clone, Copy, Debug)]
 pub struct Arrival<'a> {
-    /// The whole receive buffer of [`FRAME`](crate::FRAME) bytes; zeros where nothing arrived.
+    /// The bytes that arrived, and no others: 1 to [`FRAME`](crate::FRAME), else it is [`Refusal::BadFrame`]; fewer than the packet needs are
+    /// [`Refusal::ShortFrame`]. Bytes behind those that it needs are not read.
     pub frame: &'a [u8],
     /// The address that the packet came from.
     pub from: Address,

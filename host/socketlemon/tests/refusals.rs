@@ -5,8 +5,8 @@ mod common;
 
 use common::{message, push, send_at, Side, ID};
 use socketlemon::{
-    Address, Arrival, Calendar, Id, Packet, Push, Refusal, Rules, Wake, FRAME, LONGEST_RUN, PACKET_RUN,
-    PUSH_RUN, TAKE_RUN, WAKE_RUN,
+    Address, Calendar, Id, Packet, Push, Refusal, Rules, Wake, FRAME, LONGEST_RUN, PACKET_RUN, PUSH_RUN,
+    TAKE_RUN, WAKE_RUN,
 };
 
 const INIT: u8 = 0x80;
@@ -26,6 +26,11 @@ fn packet(id: Id, flags: u8, numbers: &[u64], tail: &[u8]) -> Vec<u8> {
     bytes.extend(numbers.iter().flat_map(|n| n.to_be_bytes()));
     bytes.extend_from_slice(tail);
     bytes
+}
+
+/// A chunk with as many bytes as it says.
+fn chunk(id: Id, index: u64, offset: u64, size: u64) -> Vec<u8> {
+    packet(id, CHUNK, &[index, offset, size], &message(size as usize))
 }
 
 /// The answer of a side to a call with a run buffer of so many bytes. A refusal has changed neither a store nor the buffer.
@@ -85,15 +90,14 @@ fn tablet() -> Side {
 #[test]
 fn frames_and_outputs() {
     let mut side = office(0);
-    let rules = Rules::accept_unlisted();
-    for length in [0, FRAME - 1, FRAME + 1] {
-        let frame = vec![0; length];
-        let (from, to) = (side.address, side.address);
-        let arrival = Arrival { frame: &frame, from, to, rules: &rules, known: true };
-        let answer = call(&mut side, PACKET_RUN, |side, run| {
-            side.receive.packet(&mut side.send, &arrival, run).map(|_| ())
-        });
-        assert_eq!(answer, Err(Refusal::BadFrame));
+    for length in [0, FRAME + 1, 65_535] {
+        assert_eq!(hand(&mut side, &vec![0; length]), Err(Refusal::BadFrame), "{length} bytes");
+    }
+    for length in [1, 8, 11] {
+        assert_eq!(hand(&mut side, &vec![0; length]), Err(Refusal::ShortFrame), "{length} bytes");
+    }
+    for length in [12, FRAME - 1, FRAME] {
+        assert_eq!(hand(&mut side, &vec![0; length]), Err(Refusal::NoWork), "{length} bytes");
     }
     let init = packet(ID, INIT, &[0], &[0]);
     assert_eq!(hand_short(&mut side, &init, PACKET_RUN - 1), Err(Refusal::ShortOutput));
@@ -132,15 +136,13 @@ fn inits() {
 #[test]
 fn chunks() {
     let mut side = office(1_301);
-    let chunk = |index, offset, size| packet(ID, CHUNK, &[index, offset, size], &[]);
-    let stranger = packet(Id([1; 8]), CHUNK, &[0, 0, 250], &[]);
-    assert_eq!(hand(&mut side, &stranger), Err(Refusal::UnknownId));
-    assert_eq!(hand(&mut side, &chunk(0, 2, 1_300)), Err(Refusal::PastEnd));
-    assert_eq!(hand(&mut side, &chunk(6, 0, 1_300)), Err(Refusal::HighIndex));
-    assert_eq!(hand(&mut side, &chunk(1, 1_299, 1)), Err(Refusal::ShortPiece));
-    assert_eq!(hand(&mut side, &chunk(0, 0, 1_300)), Ok(34 + 36));
-    assert_eq!(hand(&mut side, &chunk(1, 0, 300)), Ok(34 + 36));
-    assert_eq!(hand(&mut side, &chunk(2, 0, 300)), Err(Refusal::NoCell));
+    assert_eq!(hand(&mut side, &chunk(Id([1; 8]), 0, 0, 250)), Err(Refusal::UnknownId));
+    assert_eq!(hand(&mut side, &chunk(ID, 0, 2, 1_300)), Err(Refusal::PastEnd));
+    assert_eq!(hand(&mut side, &chunk(ID, 6, 0, 1_300)), Err(Refusal::HighIndex));
+    assert_eq!(hand(&mut side, &chunk(ID, 1, 1_299, 1)), Err(Refusal::ShortPiece));
+    assert_eq!(hand(&mut side, &chunk(ID, 0, 0, 1_300)), Ok(34 + 36));
+    assert_eq!(hand(&mut side, &chunk(ID, 1, 0, 300)), Ok(34 + 36));
+    assert_eq!(hand(&mut side, &chunk(ID, 2, 0, 300)), Err(Refusal::NoCell));
 }
 
 /// A piece below 250 bytes and below top is kept exactly where it ends the message.
@@ -149,23 +151,22 @@ fn short_pieces() {
     let length = 1_301;
     for size in [0, 1, 249] {
         let end = length - size;
-        let try_at = |offset| hand(&mut office(length), &packet(ID, CHUNK, &[1, offset, size], &[]));
+        let try_at = |offset| hand(&mut office(length), &chunk(ID, 1, offset, size));
         assert_eq!(try_at(end - 1), Err(Refusal::ShortPiece), "{} bytes, one before the end", size);
         assert_eq!(try_at(end), Ok(34 + 36), "{} bytes, at the end", size);
         assert_eq!(try_at(end + 1), Err(Refusal::PastEnd), "{} bytes, one past the end", size);
     }
-    let try_chunk =
-        |index, offset, size| hand(&mut office(length), &packet(ID, CHUNK, &[index, offset, size], &[]));
+    let try_chunk = |index, offset, size| hand(&mut office(length), &chunk(ID, index, offset, size));
     assert_eq!(try_chunk(4, 1_051, 249), Err(Refusal::ShortPiece), "just below top");
     assert_eq!(try_chunk(5, 1_051, 249), Ok(34 + 36), "at top");
     assert_eq!(try_chunk(4, 1_050, 250), Ok(34 + 36), "250 bytes");
     assert_eq!(try_chunk(6, 1_300, 1), Err(Refusal::HighIndex), "above top, at the end");
     let mut full = office(length);
     for index in 0..2 {
-        assert_eq!(hand(&mut full, &packet(ID, CHUNK, &[index, 0, 300], &[])), Ok(34 + 36));
+        assert_eq!(hand(&mut full, &chunk(ID, index, 0, 300)), Ok(34 + 36));
     }
-    assert_eq!(hand(&mut full, &packet(ID, CHUNK, &[2, 1_300, 1], &[])), Err(Refusal::NoCell));
-    assert_eq!(hand(&mut full, &packet(ID, CHUNK, &[1, 1_300, 1], &[])), Ok(34 + 36), "at a held index");
+    assert_eq!(hand(&mut full, &chunk(ID, 2, 1_300, 1)), Err(Refusal::NoCell));
+    assert_eq!(hand(&mut full, &chunk(ID, 1, 1_300, 1)), Ok(34 + 36), "at a held index");
 }
 
 #[test]
@@ -174,9 +175,9 @@ fn dones() {
     assert_eq!(hand(&mut office(1_300), &done(2, &EMPTY_SUM)), Err(Refusal::Count));
     assert_eq!(hand(&mut office(1_300), &done(1, &EMPTY_SUM)), Err(Refusal::Gap));
     let mut side = office(1_300);
-    assert_eq!(hand(&mut side, &packet(ID, CHUNK, &[0, 0, 1_299], &[])), Ok(34 + 36));
+    assert_eq!(hand(&mut side, &chunk(ID, 0, 0, 1_299)), Ok(34 + 36));
     assert_eq!(hand(&mut side, &done(1, &EMPTY_SUM)), Err(Refusal::Total));
-    assert_eq!(hand(&mut side, &packet(ID, CHUNK, &[0, 0, 1_300], &[])), Ok(34 + 36));
+    assert_eq!(hand(&mut side, &chunk(ID, 0, 0, 1_300)), Ok(34 + 36));
     assert_eq!(hand(&mut side, &done(1, &EMPTY_SUM)), Err(Refusal::Sum));
     let mut side = office(0);
     side.known = false;
@@ -192,8 +193,8 @@ fn acknowledgements() {
     assert_eq!(hand(&mut side, &packet(ID, DONE | ACK, &[0], &[])), Err(Refusal::WrongState));
     assert_eq!(hand(&mut side, &packet(ID, READ, &[], &[])), Err(Refusal::WrongState));
     assert_eq!(hand(&mut side, &packet(ID, INIT | ACK, &[0], &[])), Ok(0));
-    assert_eq!(hand(&mut side, &packet(ID, CHUNK | ACK, &[2], &[])), Err(Refusal::NoSuchPiece));
-    assert_eq!(hand(&mut side, &packet(ID, CHUNK | ACK, &[1], &[])), Ok(0));
+    assert_eq!(hand(&mut side, &packet(ID, CHUNK | ACK, &[2, 0, 0], &[])), Err(Refusal::NoSuchPiece));
+    assert_eq!(hand(&mut side, &packet(ID, CHUNK | ACK, &[1, 0, 0], &[])), Ok(0));
 }
 
 #[test]

@@ -5,8 +5,7 @@
 use super::script::{Letter, Script};
 use crate::datagram::Content;
 use socketlemon::{
-    Address, Arrival, Calendar, Id, Kind, Push, Refusal, Report, Role, Rules, Run, Store, Wake, FRAME,
-    LONGEST_RUN,
+    Address, Arrival, Calendar, Id, Kind, Push, Refusal, Report, Role, Rules, Run, Store, Wake, LONGEST_RUN,
 };
 use std::collections::VecDeque;
 
@@ -91,7 +90,7 @@ struct Waiting {
     place: usize,
     from: Address,
     to: Address,
-    frame: [u8; FRAME],
+    frame: Vec<u8>,
 }
 
 struct Link<'a> {
@@ -155,17 +154,16 @@ impl Link<'_> {
     /// Gives each packet of a run its letter, and lets those wait that are not lost.
     fn put_out(&mut self, from: Side, run: Run<'_>) {
         for packet in run {
-            let mut frame = [0; FRAME];
-            frame[..packet.bytes.len()].copy_from_slice(packet.bytes);
             let letter = self.script.letters.of(self.count);
             let place = self.packets.len();
             for _ in 0..letter.copies() {
+                let frame = packet.bytes.to_vec();
                 self.queue.push_back(Waiting { place, from: packet.from, to: packet.to, frame });
             }
             self.packets.push(Sent {
                 number: self.count,
                 from,
-                content: Content::of(&frame),
+                content: Content::of(packet.bytes),
                 letter,
                 arrivals: Vec::new(),
             });

@@ -1,8 +1,6 @@
 //! Two sides, each with its stores and address, and packets that are made by hand.
 
-use socketlemon::{
-    Address, Answer, Arrival, Calendar, Id, Packet, Push, Refusal, Role, Rules, Store, Wake, FRAME,
-};
+use socketlemon::{Address, Answer, Arrival, Calendar, Id, Packet, Push, Refusal, Role, Rules, Store, Wake};
 
 pub const ID: Id = Id(*b"house 12");
 
@@ -27,10 +25,8 @@ impl Side {
 
     /// Hands over a packet. Whatever it is, no piece is sent for it.
     pub fn packet<'r>(&mut self, packet: Packet<'_>, run: &'r mut [u8]) -> Result<Answer<'r>, Refusal> {
-        let mut frame = [0; FRAME];
-        frame[..packet.bytes.len()].copy_from_slice(packet.bytes);
-        let (from, to) = (packet.from, packet.to);
-        let arrival = Arrival { frame: &frame, from, to, rules: &self.rules, known: self.known };
+        let Packet { from, to, bytes: frame } = packet;
+        let arrival = Arrival { frame, from, to, rules: &self.rules, known: self.known };
         let answer = self.receive.packet(&mut self.send, &arrival, run)?;
         assert_eq!(answer.run.pieces(), 0, "a packet is answered with a piece");
         Ok(answer)

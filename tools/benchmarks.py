@@ -256,7 +256,7 @@ def by_call(figures):
         count, spent = figures.counted("transfer-calls", name)
         left -= spent
         rows.append([label, side, str(count), ns(spent / count), ns(spent), percent(spent / whole)])
-    rows.append(["packets copied into frames and out of runs", "host", "", "", ns(left), percent(left / whole)])
+    rows.append(["packets copied out of runs", "host", "", "", ns(left), percent(left / whole)])
     return table(["call", "node", "calls", "ns each", "ns in all", "share"], rows)
 
 
@@ -362,7 +362,7 @@ A wake sends at most eight pieces, 10,960 bytes with their addresses and headers
 ## A whole transfer
 
 32,500 bytes from one node to another in memory: push, init, 25 chunks, done, each acknowledged, take, read.
-Packets are copied into frames on the way, on both sides alike{runtime}.
+Packets are copied on the way, on both sides alike{runtime}.
 
 {transfer(figures)}
 By call, each timed in the course of a transfer; the clock adds its {ns(figures.get("clock", "nothing", 0))} ns to each:

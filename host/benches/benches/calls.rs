@@ -175,7 +175,7 @@ fn announced(clocks: &[u64]) -> Node {
     node.push(LEAVING, &benches::message(benches::LONGEST));
     node.push([1; 8], &benches::message(20 * benches::PIECE));
     let init = frame::init(LEAVING, ACK, benches::LONGEST as u64, &[]);
-    node.packet(&benches::framed(init)).expect("an acknowledgement");
+    node.packet(&init).expect("an acknowledgement");
     for clock_ms in clocks {
         let calendar = Calendar::always();
         let wake = Wake::Send { clock_ms: *clock_ms, calendar: &calendar, unix_ms: 0 };

@@ -4,7 +4,7 @@
 use std::time::{Duration, Instant};
 
 use benches::library::{self, Node};
-use benches::{framed, message, KEY, LONGEST, PEER_KEY, PIECE};
+use benches::{message, KEY, LONGEST, PEER_KEY, PIECE};
 use criterion::{
     criterion_group, criterion_main, measurement::WallTime, BatchSize, BenchmarkGroup, BenchmarkId, Criterion,
 };
@@ -16,7 +16,7 @@ const ID: Id = *b"house 12";
 
 /// The frames of packets, as they arrive.
 fn frames(packets: Vec<Packet>) -> Vec<Vec<u8>> {
-    packets.into_iter().map(|packet| framed(packet.bytes)).collect()
+    packets.into_iter().map(|packet| packet.bytes).collect()
 }
 
 /// What makes the calls of a transfer.

@@ -24,9 +24,3 @@ pub const PEER_KEY: [u8; 32] = [2; 32];
 pub fn message(length: usize) -> Vec<u8> {
     (0..length).map(|i| (i * 31 + i / 251 + i / PIECE) as u8).collect()
 }
-
-/// A packet as it arrives: a whole frame.
-pub fn framed(mut packet: Vec<u8>) -> Vec<u8> {
-    packet.resize(socketlemon::FRAME, 0);
-    packet
-}

@@ -9,7 +9,7 @@ use std::task::{Context, Poll, Waker};
 use std::time::{Duration, Instant};
 
 use futures::{FutureExt, Stream};
-use oracle::call::{Address, Id, Packet};
+use oracle::call::{Address, Id, Packet, FRAME};
 use oracle::crypto::{PacketBuffer, PublicKey};
 use oracle::data::{DataPlane, Wire};
 use oracle::message::MessageStack;
@@ -140,7 +140,7 @@ impl Node {
         self.packets(std::iter::once(frame))
     }
 
-    /// Hands over frames of the peer; gives how long the handler took for all of them.
+    /// Hands over frames of the peer, filled up with zeros; gives how long the handler took for all of them.
     pub fn packets<'a>(&self, frames: impl DoubleEndedIterator<Item = &'a [u8]>) -> Duration {
         let waker = {
             let mut shared = self.feed.lock();
@@ -148,7 +148,7 @@ impl Node {
             shared.waiting.extend(frames.rev().map(|frame| {
                 let mut buffer = PacketBuffer::new();
                 buffer.buffer_mut()[..frame.len()].copy_from_slice(frame);
-                buffer.set_size(frame.len());
+                buffer.set_size(FRAME);
                 (buffer, ip(self.peer), ip(self.address))
             }));
             shared.waker.take()

@@ -1,10 +1,10 @@
 //! Scenes: what a node holds, and the packet that comes in then. The same scene is set up in the library and in the original.
 
 use oracle::call::{Id, ACK};
-use oracle::frame::{self, ABORTED, READ};
+use oracle::frame::{self, Kind, ABORTED, READ};
 use socketlemon::Refusal;
 
-use crate::{framed, message, LONGEST, PIECE};
+use crate::{message, LONGEST, PIECE};
 
 /// A step towards a scene.
 #[derive(Clone)]
@@ -42,13 +42,13 @@ impl Scene {
 
     /// An init of the first message that arrives, which has another length now.
     fn init_restart(steps: Vec<Step>) -> Self {
-        let frame = framed(frame::init(arriving(0), 0, LONGEST as u64 - 1, TOPIC));
+        let frame = frame::init(arriving(0), 0, LONGEST as u64 - 1, TOPIC);
         Self::new("init-restart", steps, frame)
     }
 
     /// A read packet for a message that nobody sent.
     fn read_unknown(steps: Vec<Step>) -> Self {
-        let frame = bare(UNKNOWN, READ);
+        let frame = frame::bare(UNKNOWN, READ);
         let scene = Self::new("read-unknown", steps, frame).changing_nothing();
         Self { refusal: Some(Refusal::UnknownId), ..scene }
     }
@@ -72,27 +72,28 @@ fn leaving(number: usize) -> Id {
 const UNKNOWN: Id = [0x40; 8];
 
 fn init(id: Id) -> Vec<u8> {
-    framed(frame::init(id, 0, LONGEST as u64, TOPIC))
+    frame::init(id, 0, LONGEST as u64, TOPIC)
 }
 
 fn chunk(id: Id, index: usize) -> Vec<u8> {
     let offset = index * PIECE;
     let data = &message(LONGEST)[offset..offset + PIECE];
-    framed(frame::chunk(id, 0, index as u64, offset as u64, PIECE as u64, data))
+    frame::chunk(id, 0, index as u64, offset as u64, PIECE as u64, data)
 }
 
 fn done(id: Id) -> Vec<u8> {
     let sum = blake3::hash(&message(LONGEST));
-    framed(frame::done(id, 0, SLOTS as u64, sum.as_bytes()))
+    frame::done(id, 0, SLOTS as u64, sum.as_bytes())
 }
 
-fn bare(id: Id, flags: u8) -> Vec<u8> {
-    framed(frame::bare(id, flags))
-}
-
-/// A frame turned into its acknowledgement.
+/// The acknowledgement of a packet: its first bytes.
 fn ack(mut frame: Vec<u8>) -> Vec<u8> {
     frame[8] |= ACK;
+    frame.truncate(match frame::kind(frame[8]) {
+        Kind::Init => 21,
+        Kind::Chunk => 36,
+        _ => 52,
+    });
     frame
 }
 
@@ -138,7 +139,7 @@ pub fn full(cells: usize) -> Vec<Scene> {
         Scene::new("chunk-held", all(), chunk(arriving(0), held)).changing_nothing(),
         Scene::new("done", all(), done(arriving(0))),
         Scene::read_unknown(all()),
-        Scene::new("aborted", all(), bare(arriving(0), ABORTED)),
+        Scene::new("aborted", all(), frame::bare(arriving(0), ABORTED)),
         Scene::new("ack-init", all(), ack(init(leaving(0)))),
         Scene::new("ack-chunk", started(), ack(chunk(leaving(0), held))),
         Scene::new("ack-done", started(), ack(done(leaving(0)))),
@@ -157,7 +158,7 @@ pub fn empty() -> Vec<Scene> {
         Scene::new("chunk-held", receive(1, 1), chunk(arriving(0), 0)).changing_nothing(),
         Scene::new("done", receive(1, SLOTS), done(arriving(0))),
         Scene::read_unknown(vec![]),
-        Scene::new("aborted", receive(1, 0), bare(arriving(0), ABORTED)),
+        Scene::new("aborted", receive(1, 0), frame::bare(arriving(0), ABORTED)),
         Scene::new("ack-init", pushed(), ack(init(leaving(0)))),
         Scene::new("ack-chunk", started(), ack(chunk(leaving(0), 0))),
         Scene::new("ack-done", started(), ack(done(leaving(0)))),

@@ -10,7 +10,7 @@ pub type Id = [u8; 8];
 /// An IPv6 address.
 pub type Address = [u8; 16];
 
-/// The bytes of a frame.
+/// The most bytes of a frame.
 pub const FRAME: usize = 1400;
 
 /// The most cells of a store.
@@ -98,7 +98,7 @@ pub enum Call {
     /// The addresses whose key is known from here on.
     Known(BTreeSet<Address>),
     Push(Push),
-    /// A frame that arrived: 1,400 bytes.
+    /// A frame that arrived, as many bytes as came. The original gets it filled up with zeros to 1,400.
     Packet(Packet),
     /// A wake by the clock, within hours where it is a send wake.
     Wake(Wake, Id, u64),
@@ -149,6 +149,7 @@ pub enum Woke {
     Unseen,
 }
 
+pub const BAD_FRAME: u64 = 1;
 pub const CLOSED_TOPIC: u64 = 4;
 pub const UNKNOWN_ID: u64 = 8;
 pub const SHORT_PIECE: u64 = 11;
@@ -158,6 +159,7 @@ pub const NO_WORK: u64 = 20;
 pub const TOPIC_TOO_LARGE: u64 = 21;
 pub const NONE_WHOLE: u64 = 23;
 pub const BAD_CALENDAR: u64 = 26;
+pub const SHORT_FRAME: u64 = 27;
 
 /// What the original put out after a call.
 #[derive(Clone, Debug, PartialEq, Eq, Default)]
@@ -197,6 +199,6 @@ impl Got {
 
     /// Whether the number is one that the original does not have: such a call is outside the comparison.
     pub fn is_added_refusal(&self) -> bool {
-        matches!(self.number, 1..=3 | 6 | 7 | 12 | 22..=26)
+        matches!(self.number, 1..=3 | 6 | 7 | 12 | 22..=27)
     }
 }

@@ -10,7 +10,7 @@ pub const USAGE: &str = "usage:
       compares with the original, N sequences of N steps each; a fault must be found:
       reply, report, take, wake, deadline, mark, refused, number, leave, stay, leave-init, leave-early,
       stay-init, restart, skip, shut, stamp, open, calendar, nine, unsent, wanting, due-first, falling,
-      counted, stay-full or leave-full
+      counted, stay-full, leave-full, fill, cut or spill
   oracle replay FILE...
       replays lists of what the original put out
   oracle record FOLDER

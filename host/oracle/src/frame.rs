@@ -1,6 +1,6 @@
 //! Frames made by hand, and the fields of frames.
 
-use crate::call::{Id, ACK};
+use crate::call::{Id, ACK, BAD_FRAME, FRAME, SHORT_FRAME};
 
 pub const INIT: u8 = 0x80;
 pub const DONE: u8 = 0x40;
@@ -63,6 +63,37 @@ pub fn done(id: Id, flags: u8, count: u64, sum: &[u8; 32]) -> Vec<u8> {
     [&bare(id, DONE | flags)[..], &count.to_be_bytes(), sum].concat()
 }
 
+/// The bytes of a header, of an init before its topic, of a chunk before its piece, and of a done.
+const HEADER: usize = 12;
+const INIT_FIELDS: usize = 21;
+const CHUNK_FIELDS: usize = 36;
+const DONE_BYTES: usize = 52;
+
+/// How many bytes a packet needs, by those that came; where the byte that says so has not come, at least up to it.
+pub fn needed(frame: &[u8]) -> u128 {
+    let flags = frame.get(8).copied().unwrap_or(0);
+    let bytes = match (kind(flags), flags & ACK != 0) {
+        (Kind::Init, false) => INIT_FIELDS + frame.get(20).map_or(0, |topic| usize::from(*topic)),
+        (Kind::Chunk, false) if frame.len() >= CHUNK_FIELDS => {
+            // exact, also for a size near 2^64
+            return CHUNK_FIELDS as u128 + u128::from(field(frame, 2));
+        }
+        (Kind::Chunk, _) => CHUNK_FIELDS,
+        (Kind::Done, false) => DONE_BYTES,
+        _ => HEADER,
+    };
+    bytes as u128
+}
+
+/// The refusal of a frame for its length alone, by document 02; the original knows none.
+pub fn refusal(frame: &[u8]) -> Option<u64> {
+    match frame.len() {
+        length if !(1..=FRAME).contains(&length) => Some(BAD_FRAME),
+        length if (length as u128) < needed(frame) => Some(SHORT_FRAME),
+        _ => None,
+    }
+}
+
 /// Field number `place` of eight bytes in the body: an init's length, a chunk's index, offset and size, a done's count.
 pub fn field(frame: &[u8], place: usize) -> u64 {
     let at = 12 + 8 * place;
@@ -77,4 +108,58 @@ pub fn topic(frame: &[u8]) -> &[u8] {
 /// The bytes of a chunk's piece.
 pub fn piece(frame: &[u8]) -> &[u8] {
     &frame[36..36 + field(frame, 2).min(LARGEST_PIECE) as usize]
+}
+
+#[cfg(test)]
+mod tests {
+    use super::*;
+
+    /// How many bytes a packet needs where all of it has come, and where one byte is missing.
+    fn whole(mut bytes: Vec<u8>) -> u128 {
+        let needs = needed(&bytes);
+        bytes.resize(FRAME, 0xee);
+        assert_eq!(needed(&bytes), needs, "what follows is no part of it");
+        needs
+    }
+
+    #[test]
+    fn each_kind_needs_its_bytes() {
+        assert_eq!(whole(init([1; 8], 0, 9, b"ducts")), 26);
+        assert_eq!(whole(init([1; 8], CHUNK | DONE, 9, &[7; 255])), 276);
+        assert_eq!(whole(chunk([1; 8], 0, 0, 0, 250, &[7; 250])), 286);
+        assert_eq!(whole(chunk([1; 8], DONE, 0, 0, 0, &[])), 36);
+        assert_eq!(whole(done([1; 8], READ, 9, &[7; 32])), 52);
+        for flags in
+            [READ, ABORTED, READ | ABORTED, 0, REPLY, ACK, READ | ACK, DONE | ACK, INIT | CHUNK | ACK]
+        {
+            assert_eq!(whole(bare([1; 8], flags)), 12, "flags {flags:#04x}");
+        }
+        for size in [0, 1_364, u64::MAX] {
+            assert_eq!(whole(chunk([1; 8], ACK, 0, 0, size, &[])), 36);
+            assert_eq!(whole(chunk([1; 8], ACK | DONE, 0, 0, size, &[])), 36);
+        }
+        assert_eq!(whole(chunk([1; 8], 0, 0, 0, u64::MAX, &[])), (1 << 64) + 35, "nothing wraps");
+    }
+
+    #[test]
+    fn a_frame_is_refused_for_its_length() {
+        let refused = |frame: &[u8], length: usize| refusal(&frame[..length]);
+        for (packet, needs) in [
+            (init([1; 8], 0, 9, b"ducts"), 26),
+            (chunk([1; 8], 0, 0, 0, 1_364, &[7; 1_364]), 1_400),
+            (chunk([1; 8], ACK, 0, 0, 1_364, &[]), 36),
+            (done([1; 8], 0, 9, &[7; 32]), 52),
+            (bare([1; 8], DONE | ACK), 12),
+            (bare([1; 8], 0), 12),
+        ] {
+            let frame = [packet, vec![0xee; FRAME + 1]].concat();
+            assert_eq!([0, FRAME + 1].map(|length| refused(&frame, length)), [Some(BAD_FRAME); 2]);
+            assert!((1..needs).all(|length| refused(&frame, length) == Some(SHORT_FRAME)));
+            assert!((needs..=FRAME).all(|length| refused(&frame, length).is_none()));
+        }
+        for size in [1_365, u64::MAX - 36, u64::MAX - 35, u64::MAX] {
+            let frame = [chunk([1; 8], 0, 0, 0, size, &[]), vec![0; FRAME]].concat();
+            assert!((1..=FRAME).all(|length| refused(&frame, length) == Some(SHORT_FRAME)), "size {size}");
+        }
+    }
 }

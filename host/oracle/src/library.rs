@@ -2,7 +2,7 @@
 
 use std::collections::BTreeSet;
 
-use crate::call::{Address, Call, Got, Hours, Id, Packet, Push, Report, Setup, Taken, Wake, FRAME};
+use crate::call::{Address, Call, Got, Hours, Id, Packet, Push, Report, Setup, Taken, Wake};
 
 /// What each export answers.
 #[repr(C)]
@@ -129,8 +129,8 @@ impl Node {
     }
 
     fn packet(&mut self, p: &Packet) -> Got {
-        assert_eq!(p.bytes.len(), FRAME, "a packet comes in as a whole frame");
-        let known = self.source_of(&p.id()).is_some_and(|source| self.known.contains(&source));
+        let source = p.bytes.get(..8).and_then(|id| self.source_of(&array(id)));
+        let known = source.is_some_and(|source| self.known.contains(&source));
         let mut run = [0; RUN_BYTES];
         let answer = unsafe {
             socketlemon_packet(

@@ -46,7 +46,7 @@ mod with_the_original {
     const SEEDS: &str = "40";
 
     /// Each fault, with the call at which it must show.
-    const FAULTS: [(&str, &str); 27] = [
+    const FAULTS: [(&str, &str); 30] = [
         ("reply", "packet"),
         ("report", "report"),
         ("take", "take"),
@@ -74,6 +74,9 @@ mod with_the_original {
         ("counted", "packet"),
         ("stay-full", "wake 1"),
         ("leave-full", "wake 1"),
+        ("fill", "packet"),
+        ("cut", "packet"),
+        ("spill", "packet"),
     ];
 
     /// Why ids leave.
@@ -82,7 +85,7 @@ mod with_the_original {
     const FULL_WAKE: &str = "C-15, a wake with more than eight pieces to send";
 
     /// How many sequences are searched for one in which an id leaves before a difference.
-    const SEARCHED: u64 = 400;
+    const SEARCHED: u64 = 1_000;
 
     fn file(name: &str, text: &str) -> PathBuf {
         let file = PathBuf::from(env!("CARGO_TARGET_TMPDIR")).join(name);
@@ -132,7 +135,7 @@ mod with_the_original {
             ("leave-init", EQUAL_INIT, "the library's stores have changed"),
             ("leave-early", EQUAL_INIT, "the original then answers "),
             ("restart", EQUAL_INIT, "the library's stores have changed"),
-            ("leave-full", FULL_WAKE, "1 pieces want sending and the original sends 0"),
+            ("leave-full", FULL_WAKE, "7 pieces want sending and the original sends 0 1 2 3 4 5 6"),
         ] {
             let (_, text) = oracle(&["--seeds", SEEDS, "--fault", fault]);
             let first = text.lines().next().expect("a first line");
@@ -152,6 +155,23 @@ mod with_the_original {
             ),
             ("calendar", ": woken in vain, the library answers 0 for 26, sends "),
             ("open", ": the library puts out 0 packets, the original "),
+        ] {
+            let (_, text) = oracle(&["--seeds", SEEDS, "--fault", fault]);
+            let first = text.lines().next().expect("a first line");
+            assert!(first.contains(told), "{fault}: {first}");
+        }
+    }
+
+    /// Faults in how much of a frame the library gets, with what is said of them.
+    #[test]
+    fn a_short_frame_must_be_refused_and_no_other() {
+        for (fault, told) in [
+            ("fill", " bytes came, and the library answers "),
+            (
+                "spill",
+                " bytes came, and the library answers 27 for 27, sends 0 packets and changes its stores",
+            ),
+            ("cut", ": the library answers 27 without reason"),
         ] {
             let (_, text) = oracle(&["--seeds", SEEDS, "--fault", fault]);
             let first = text.lines().next().expect("a first line");

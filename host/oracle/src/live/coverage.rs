@@ -2,7 +2,9 @@
 
 use std::collections::{BTreeMap, BTreeSet};
 
-use crate::call::{Call, Packet, Said, Wake, Woke, CLOSED_TOPIC, TOPIC_TOO_LARGE};
+use crate::call::{
+    Call, Packet, Said, Wake, Woke, ACK, BAD_FRAME, CLOSED_TOPIC, SHORT_FRAME, TOPIC_TOO_LARGE,
+};
 use crate::frame::{self, Kind};
 use crate::live::left::Listed;
 use crate::live::run::{AGED, BY_HOURS, EIGHT, FULL, KEPT_BACK, MALFORMED, MIXED, OUTSIDE, STAYS};
@@ -19,6 +21,8 @@ pub struct Coverage {
     flags: BTreeSet<u8>,
     /// Lengths of messages taken.
     lengths: BTreeSet<usize>,
+    /// Frames by what they are and how many bytes came of them.
+    frames: BTreeMap<(&'static str, Came), u64>,
     /// Calls that lie outside what the original can be asked, by why; they are not compared.
     outside: BTreeMap<String, u64>,
     /// Ids that were pushed or announced.
@@ -26,6 +30,26 @@ pub struct Coverage {
     /// Those of them that left the comparison, by why.
     left: BTreeMap<Listed, u64>,
 }
+
+/// How many bytes came of a frame: one fewer than its packet needs, as many, or more.
+#[derive(Clone, Copy, Debug, PartialEq, Eq, PartialOrd, Ord)]
+enum Came {
+    AllButOne,
+    All,
+    More,
+}
+
+impl Came {
+    const EACH: [(Self, &'static str); 3] =
+        [(Self::AllButOne, "a byte short"), (Self::All, "exact"), (Self::More, "longer")];
+}
+
+/// What a frame is, by its flags.
+const FRAMES: [&str; 9] =
+    ["an init", "a chunk", "a done", "a read", "an aborted", ACK_INIT, ACK_CHUNK, ACK_DONE, "no kind"];
+const ACK_INIT: &str = "an acknowledgement of an init";
+const ACK_CHUNK: &str = "an acknowledgement of a chunk";
+const ACK_DONE: &str = "an acknowledgement of a done";
 
 /// Lengths where the protocol's arithmetic turns.
 pub const BOUNDARY_LENGTHS: [usize; 11] = [0, 1, 249, 250, 251, 1299, 1300, 1301, 1550, 32_499, 32_500];
@@ -81,7 +105,8 @@ const OTHER_INITS: [(&str, &str); 5] = [
 impl Coverage {
     /// Takes over what another part of the run has met.
     pub fn join(&mut self, other: Coverage) {
-        let Coverage { calls, seen, numbers, flags, lengths, outside, ids, left } = other;
+        let Coverage { calls, seen, numbers, flags, lengths, frames, outside, ids, left } = other;
+        add(&mut self.frames, frames);
         add(&mut self.calls, calls);
         add(&mut self.seen, seen);
         add(&mut self.numbers, numbers);
@@ -95,6 +120,31 @@ impl Coverage {
     /// Something was seen that is no call.
     pub fn saw(&mut self, what: &'static str) {
         *self.seen.entry(what).or_default() += 1;
+    }
+
+    /// A frame came in, of which so many bytes came.
+    pub fn frame(&mut self, frame: &[u8]) {
+        let Some(flags) = frame.get(8) else {
+            return;
+        };
+        let came = match frame.len() as u128 {
+            length if length + 1 == frame::needed(frame) => Came::AllButOne,
+            length if length == frame::needed(frame) => Came::All,
+            length if length > frame::needed(frame) => Came::More,
+            _ => return,
+        };
+        let what = match (frame::kind(*flags), flags & ACK != 0) {
+            (Kind::Init, false) => "an init",
+            (Kind::Chunk, false) => "a chunk",
+            (Kind::Done, false) => "a done",
+            (Kind::Read, _) => "a read",
+            (Kind::Aborted, _) => "an aborted",
+            (Kind::Init, true) => ACK_INIT,
+            (Kind::Chunk, true) => ACK_CHUNK,
+            (Kind::Done, true) => ACK_DONE,
+            (Kind::None, _) => "no kind",
+        };
+        *self.frames.entry((what, came)).or_default() += 1;
     }
 
     /// A call was left out.
@@ -188,6 +238,16 @@ impl Coverage {
                 .filter(|n| ![6, 7, 12].contains(n) && !self.numbers.contains_key(n))
                 .map(|n| format!("a packet answered {n}")),
         );
+        for (came, name) in Came::EACH {
+            let unmet = FRAMES.iter().filter(|what| !self.frames.contains_key(&(**what, came)));
+            missing.extend(unmet.map(|what| format!("a frame of {what}, {name}")));
+        }
+        missing.extend(
+            [BAD_FRAME, SHORT_FRAME]
+                .map(|number| format!("answered {number}"))
+                .into_iter()
+                .filter(|told| !self.outside.contains_key(told)),
+        );
         if self.flags.len() < 256 {
             missing.push(format!("{} of 256 flag bytes", 256 - self.flags.len()));
         }
@@ -224,6 +284,11 @@ impl Coverage {
         };
         let numbers = row(self.numbers.iter().map(|(number, times)| (number.to_string(), times)).collect());
         let outside = row(self.outside.iter().map(|(why, times)| (why.clone(), times)).collect());
+        let frames = Came::EACH.map(|(wanted, name)| {
+            let those = self.frames.iter().filter(|((_, came), _)| *came == wanted);
+            format!("{} {name}", those.map(|(_, times)| times).sum::<u64>())
+        });
+        text.push_str(&format!("  frames of {} kinds: {}\n", FRAMES.len(), frames.join(", ")));
         text.push_str(&format!(
             "  {} flag bytes, {} lengths of messages taken\n",
             self.flags.len(),
@@ -251,7 +316,7 @@ fn add<T: Ord>(to: &mut BTreeMap<T, u64>, more: BTreeMap<T, u64>) {
 #[cfg(test)]
 mod tests {
     use super::*;
-    use crate::call::{Setup, ACK, FRAME};
+    use crate::call::{Setup, FRAME};
 
     /// A run that met so many ids, of which so many left.
     fn met(ids: u64, left: u64) -> Coverage {
@@ -304,6 +369,48 @@ mod tests {
     fn packet(mut bytes: Vec<u8>) -> Packet {
         bytes.resize(FRAME, 0);
         Packet { from: [1; 16], to: [2; 16], bytes }
+    }
+
+    /// What is still missing of frames.
+    fn missing_frames(coverage: &Coverage) -> Vec<String> {
+        coverage.missing().into_iter().filter(|what| what.starts_with("a frame of ")).collect()
+    }
+
+    #[test]
+    fn frames_are_told_apart_by_what_came() {
+        let mut coverage = Coverage::default();
+        assert_eq!(missing_frames(&coverage).len(), 27);
+        let packets = [
+            (frame::init([1; 8], 0, 9, b"ducts"), 26),
+            (frame::chunk([1; 8], 0, 0, 0, 250, &[7; 250]), 286),
+            (frame::done([1; 8], 0, 9, &[7; 32]), 52),
+            (frame::bare([1; 8], frame::READ), 12),
+            (frame::bare([1; 8], frame::ABORTED), 12),
+            (frame::init([1; 8], ACK, 9, b"ducts"), 12),
+            (frame::chunk([1; 8], ACK, 0, 0, 250, &[]), 36),
+            (frame::done([1; 8], ACK, 9, &[7; 32]), 12),
+            (frame::bare([1; 8], 0), 12),
+        ];
+        for ((packet, needed), what) in packets.into_iter().zip(FRAMES) {
+            let frame = [packet, vec![0; FRAME]].concat();
+            coverage.frame(&frame[..8]);
+            coverage.frame(&frame[..needed - 2]);
+            for (length, (_, name)) in [needed - 1, needed, FRAME].into_iter().zip(Came::EACH) {
+                let told = format!("a frame of {what}, {name}");
+                assert!(missing_frames(&coverage).contains(&told), "{told}");
+                coverage.frame(&frame[..length]);
+                assert!(!missing_frames(&coverage).contains(&told), "{told}");
+            }
+        }
+        assert_eq!(missing_frames(&coverage), [""; 0]);
+        let line = "  frames of 9 kinds: 9 a byte short, 9 exact, 9 longer\n";
+        assert!(coverage.lines().contains(line), "{}", coverage.lines());
+        for number in [BAD_FRAME, SHORT_FRAME] {
+            let told = format!("answered {number}");
+            assert!(coverage.missing().contains(&told));
+            coverage.outside(told.clone());
+            assert!(!coverage.missing().contains(&told));
+        }
     }
 
     #[test]

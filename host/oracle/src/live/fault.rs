@@ -1,7 +1,7 @@
 //! Deliberate faults, in what the judge is told to expect or in what the library is made to do: each must be
 //! found.
 
-use crate::call::{Call, Got, Hours, Packet, Said, Wake, Woke, FRAME, SHORT_PIECE};
+use crate::call::{Call, Got, Hours, Packet, Said, Wake, Woke, FRAME, SHORT_FRAME, SHORT_PIECE};
 use crate::frame;
 use crate::library::Node;
 use crate::live::hours::{says, Says};
@@ -69,10 +69,16 @@ pub enum Fault {
     StayFull,
     /// An id left out at every wake with pieces to send.
     LeaveFull,
+    /// The library gets a short frame filled up with zeros.
+    Fill,
+    /// The library misses the last byte that a packet needs.
+    Cut,
+    /// The library changes its store with a short frame that it refuses.
+    Spill,
 }
 
 /// Each fault by the name that the command line knows.
-pub const FAULTS: [(&str, Fault); 27] = [
+pub const FAULTS: [(&str, Fault); 30] = [
     ("reply", Fault::Reply),
     ("report", Fault::Report),
     ("take", Fault::Take),
@@ -100,6 +106,9 @@ pub const FAULTS: [(&str, Fault); 27] = [
     ("counted", Fault::Counted),
     ("stay-full", Fault::StayFull),
     ("leave-full", Fault::LeaveFull),
+    ("fill", Fault::Fill),
+    ("cut", Fault::Cut),
+    ("spill", Fault::Spill),
 ];
 
 impl Fault {
@@ -159,13 +168,22 @@ impl Fault {
     pub fn call(self, node: &mut Node, call: &Call, tally: &Tally) -> Got {
         match (self, call) {
             (Self::Restart, Call::Packet(packet)) if is_late_init(packet, tally, true) => {
-                let mut bytes = frame::bare(packet.id(), frame::ABORTED);
-                bytes.resize(FRAME, 0);
+                let bytes = frame::bare(packet.id(), frame::ABORTED);
                 node.call(&Call::Packet(Packet { bytes, ..packet.clone() }));
                 node.call(call)
             }
             (Self::Skip, Call::Packet(packet)) if is_late_init(packet, tally, false) => {
                 node.clone().call(call)
+            }
+            (Self::Fill, Call::Packet(packet)) if is_short(packet) => node.call(&resized(packet, FRAME)),
+            (Self::Spill, Call::Packet(packet)) if is_short(packet) => {
+                node.call(&resized(packet, FRAME));
+                Got { number: SHORT_FRAME, ..Got::default() }
+            }
+            (Self::Cut, Call::Packet(packet))
+                if frame::needed(&packet.bytes) == packet.bytes.len() as u128 =>
+            {
+                node.call(&resized(packet, packet.bytes.len() - 1))
             }
             (Self::Counted, Call::Packet(_)) => {
                 let got = node.call(call);
@@ -206,7 +224,20 @@ impl Fault {
     }
 }
 
+/// Whether fewer bytes came than a packet needs.
+fn is_short(packet: &Packet) -> bool {
+    frame::refusal(&packet.bytes) == Some(SHORT_FRAME)
+}
+
+/// The call with a frame of another length.
+fn resized(packet: &Packet, length: usize) -> Call {
+    let mut bytes = packet.bytes.clone();
+    bytes.resize(length, 0);
+    Call::Packet(Packet { bytes, ..packet.clone() })
+}
+
 /// Whether a packet is an init behind a piece, and equal to the one that opened its message or not.
 fn is_late_init(packet: &Packet, tally: &Tally, is_equal: bool) -> bool {
-    Again::of(packet, tally).is_some_and(|init| init.is_late() && init.is_equal() == is_equal)
+    let came = frame::refusal(&packet.bytes).is_none();
+    came && Again::of(packet, tally).is_some_and(|init| init.is_late() && init.is_equal() == is_equal)
 }

@@ -38,7 +38,7 @@ impl Listed {
     }
 
     /// Of 100 ids, at most so many may leave the comparison of a full run for it: with more it compares too little.
-    /// This is a little above what a full run has: 3.3, 1.5, 14.1.
+    /// This is a little above what a full run has: 3.4, 1.4, 14.1.
     pub fn most_in_100(self) -> u64 {
         match self {
             Self::ShortLastPiece => 4,

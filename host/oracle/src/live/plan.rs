@@ -140,16 +140,31 @@ impl Plan {
         Step::Clock(self.later(tally, clock))
     }
 
-    /// A packet as a whole frame: zeros after it, or whatever stood in the buffer.
+    /// A packet as it comes in: mostly as it was sent; now and then cut, with just the bytes that it needs, or with
+    /// others behind it, zeros or whatever stood in the buffer. Some are no frames.
     fn framed(&mut self, packet: Packet) -> Packet {
+        if self.rng.one_in(400) {
+            let bytes = vec![self.rng.next() as u8; *self.rng.pick(&[0, FRAME + 1])];
+            return Packet { bytes, ..packet };
+        }
         let mut bytes = match self.rng.below(4) {
             0 => self.rng.data(FRAME),
             1 => self.last_frame.clone(),
             _ => vec![0; FRAME],
         };
-        let used = packet.bytes.len().min(FRAME);
-        bytes[..used].copy_from_slice(&packet.bytes[..used]);
+        let sent = packet.bytes.len().min(FRAME);
+        bytes[..sent].copy_from_slice(&packet.bytes[..sent]);
         self.last_frame = bytes.clone();
+        let needed = frame::needed(&packet.bytes).min(FRAME as u128) as usize;
+        bytes.truncate(match self.rng.below(32) {
+            0 => needed - 1,
+            1 => self.rng.below(sent as u64 + 1) as usize,
+            2..=4 => needed,
+            5..=7 => needed + 1,
+            8..=10 => self.rng.between(sent as u64, FRAME as u64) as usize,
+            11..=16 => FRAME,
+            _ => sent,
+        });
         Packet { bytes, ..packet }
     }
 
@@ -216,7 +231,6 @@ impl Plan {
             return self.framed_from_anyone(bytes);
         }
         let mut packet = self.rng.pick(&self.in_flight).clone();
-        packet = self.framed(packet);
         match self.rng.below(6) {
             0 => packet.bytes[8] = self.rng.next() as u8,
             1 => packet.bytes[8] ^= 1 << self.rng.below(8),
@@ -224,15 +238,17 @@ impl Plan {
             3 => {
                 let at = 12 + 8 * self.rng.below(3) as usize;
                 let field = self.number();
+                packet.bytes.resize(packet.bytes.len().max(at + 8), 0);
                 packet.bytes[at..at + 8].copy_from_slice(&field.to_be_bytes());
             }
             4 => packet.from = self.address(),
             _ => {
-                let at = self.rng.below(FRAME as u64) as usize;
-                packet.bytes[at] ^= 1 << self.rng.below(8);
+                // mostly of a long packet: a short one comes again as it is
+                let (at, bit) = (self.rng.below(FRAME as u64) as usize, 1 << self.rng.below(8));
+                packet.bytes.get_mut(at).iter_mut().for_each(|byte| **byte ^= bit);
             }
         }
-        packet
+        self.framed(packet)
     }
 
     /// A number where something turns.
@@ -253,6 +269,7 @@ impl Plan {
             1 << 32,
             1 << 63,
             u64::MAX - 1_364,
+            u64::MAX - 36,
             u64::MAX,
         ]);
         match self.rng.below(4) {

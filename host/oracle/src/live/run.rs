@@ -19,6 +19,7 @@ use crate::live::words;
 
 mod eight;
 mod in_vain;
+mod short;
 mod unjudged;
 
 pub use eight::{AGED, EIGHT, FULL, MIXED, STAYS};
@@ -136,6 +137,9 @@ impl<'a> Run<'a> {
     }
 
     fn call(&mut self, call: Call) -> Result<Vec<Packet>, Difference> {
+        if let Some(number) = self.refused_for_length(&call) {
+            return self.hand_in_vain(call, number);
+        }
         if wraps(&call) {
             self.coverage.outside("offset and size past 2^64".to_string());
             return Ok(Vec::new());

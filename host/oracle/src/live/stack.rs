@@ -8,7 +8,8 @@ use futures::FutureExt;
 use tokio::runtime::{Builder, Runtime};
 
 use crate::call::{
-    Address, Call, Id, Packet, Push, Report, Said, Setup, Taken, NONE_WHOLE, TOPIC_TOO_LARGE, UNKNOWN_ID,
+    Address, Call, Id, Packet, Push, Report, Said, Setup, Taken, FRAME, NONE_WHOLE, TOPIC_TOO_LARGE,
+    UNKNOWN_ID,
 };
 use crate::crypto::{PacketBuffer, PublicKey};
 use crate::data::{DataPlane, Wire};
@@ -116,9 +117,10 @@ impl Original {
     }
 
     fn packet(&self, packet: &Packet) -> Said {
+        // a new buffer is of zeros, and all of it is in use
         let mut buffer = PacketBuffer::new();
-        buffer.buffer_mut().copy_from_slice(&packet.bytes);
-        buffer.set_size(packet.bytes.len());
+        buffer.buffer_mut()[..packet.bytes.len()].copy_from_slice(&packet.bytes);
+        buffer.set_size(FRAME);
         self.packets
             .unbounded_send((buffer, ip(&packet.from), ip(&packet.to)))
             .expect("the original takes packets");

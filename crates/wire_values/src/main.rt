@@ -145,13 +145,20 @@ fn replies() {
     write_hex(&run);
 }
 
+// The topic that a frame gives as an init, if all of it came.
+fn topic(frame: &[u8]) {
+    if packet::init::MessageInit::came(frame) {
+        write_hex(packet::reader::topic(frame));
+    }
+}
+
 // The fields that a frame gives as each kind of packet.
 fn fields() {
     let f = frame();
     write_hex(packet::reader::id(&f));
     io::print_decimal(STDOUT_FILENO, packet::reader::length(&f));
     line();
-    write_hex(packet::reader::topic(&f));
+    topic(&f);
     io::print_decimal(STDOUT_FILENO, packet::reader::index(&f));
     line();
     io::print_decimal(STDOUT_FILENO, packet::reader::offset(&f));

@@ -82,7 +82,8 @@ pub(crate) fn all(what: &[u8], held: bool, n: usize) {
     lines(&counts);
 }
 
-// The same where the id is arriving, and leaving in state 1: frames of all lengths at which the answer changes.
+// The same where the id is arriving, and leaving in state 1: whole frames, and those of the lengths at which
+// answers change, and a byte shorter.
 pub(crate) fn lengths() {
     all(b"flags, arriving, and leaving in state 1:", true, 1400);
     all(b"  frames of 11:", true, 11);

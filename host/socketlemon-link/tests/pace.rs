@@ -86,20 +86,35 @@ fn without_an_acknowledgement_eight_leave_every_100_ms() {
     assert_eq!(again, (0..15).collect::<Vec<u8>>());
 }
 
-/// Where each piece is acknowledged as it comes.
-#[test]
-fn pieces_come_by_index_and_the_done_behind_them() {
-    let folder = Folder::new();
-    let mut tablet = Tablet::start(&folder);
+/// Acknowledges each piece as it comes; new ones come by index. Gives how long behind the first the last one came.
+fn acknowledge_all(tablet: &mut Tablet) -> Duration {
     let init = tablet.next(INIT);
     tablet.acknowledge(&init);
-    let mut new = 0;
+    let (mut new, mut start) = (0, None);
     while new < 25 {
         let piece = tablet.next(CHUNK);
+        start.get_or_insert_with(Instant::now);
         let index = piece.frame[19];
         assert!(index <= new, "piece {} before {}", index, new);
         new = new.max(index + 1);
         tablet.acknowledge(&piece);
     }
+    start.map_or(Duration::ZERO, |start: Instant| start.elapsed())
+}
+
+/// Where each piece is acknowledged as it comes.
+#[test]
+fn pieces_come_by_index_and_the_done_behind_them() {
+    let folder = Folder::new();
+    let mut tablet = Tablet::start(&folder);
+    acknowledge_all(&mut tablet);
     assert_eq!(tablet.next(DONE).frame[19], 25, "the done counts all pieces");
+}
+
+/// By the clock alone, four wakes with eight pieces at most take 300 ms. On a busy machine a try may take as long.
+#[test]
+fn with_acknowledgements_no_piece_waits_for_the_clock() {
+    let folder = Folder::new();
+    let mut tries = (0..10).map(|_| acknowledge_all(&mut Tablet::start(&folder)));
+    assert!(tries.any(|spent| spent < Duration::from_millis(250)), "25 pieces never came within 250 ms");
 }

@@ -259,6 +259,18 @@ mod tests {
                 "0 packets of the tablet and 1 reply of the office",
                 Some("the init and piece 0, 3 times each"),
             ),
+            (
+                "5200\nDDLLL",
+                "3 packets of the tablet and 0 replies of the office",
+                "nothing",
+                Some("piece 0 and piece 1 and piece 2, 2 times each"),
+            ),
+            (
+                "5200\nDDLLLL",
+                "4 packets of the tablet and 0 replies of the office",
+                "nothing",
+                Some("4 of the packets, 2 times each"),
+            ),
         ];
         for (script, lost, repeated, most) in cases {
             let damage = lesson(script).damage();

@@ -27,6 +27,7 @@ use Rattle.packet.specs.LengthsLaws.{length-done}
 use Rattle.machine.specs.Codes.{roleReceive, roleSend}
 use Rattle.machine.specs.Values.{Rec, Store, sameKey, equalInFive}
 use Rattle.machine.specs.Counting.{rise}
+use Rattle.machine.specs.Sources.{cellsFrom}
 use Rattle.machine.specs.Sound.{fresh, sizes}
 use Rattle.machine.specs.Find.{find, swap, without}
 use Rattle.machine.specs.Refusals.{refusal}
@@ -128,7 +129,7 @@ mixed = init 3 ∷ chunk 0 0 old ∷ another 3 ∷ done 1 new ∷ chunk 0 0 old 
 mixed-numbers : numbers (map heard mixed) (fresh roleReceive 2) sender ≡ 0 ∷ 0 ∷ 0 ∷ 14 ∷ 0 ∷ 16 ∷ 0 ∷ 0 ∷ 8 ∷ []
 unfolding numbers old new id topic init another chunk done address part be num same add rotr half mix step round rounds start
     compress chaining rootBlock wordAt blockAt flagsAt before lastNode chunkNode parentNode level node bytes blake3 kindOf header chunkPacket
-    donePacket sameKey equalInFive rise sizes find swap without refusal putPiece joined initAt chunkAt doneAt kindRow recvStep sendStep tooShort
+    donePacket sameKey equalInFive rise sizes find swap without refusal putPiece joined initAt chunkAt doneAt kindRow recvStep sendStep tooShort cellsFrom
 mixed-numbers = refl
 
 -- a survey of two pieces, its packets lost, repeated and out of order, its init late once more; and what comes when it is whole
@@ -139,7 +140,7 @@ lossy =
 
 lossy-numbers : numbers (map heard lossy) (fresh roleReceive 2) sender ≡ 0 ∷ 0 ∷ 0 ∷ 0 ∷ 0 ∷ 13 ∷ 14 ∷ 0 ∷ 0 ∷ 8 ∷ 8 ∷ 5 ∷ []
 unfolding numbers id init chunk done address surveyOf arriving part be num same kindOf header chunkPacket donePacket sameKey equalInFive rise find
-    swap without refusal putPiece initAt chunkAt doneAt kindRow recvStep sendStep tooShort piece0 piece1
+    swap without refusal putPiece initAt chunkAt doneAt kindRow recvStep sendStep tooShort cellsFrom piece0 piece1
 lossy-numbers =
     ap (λ (l : List ℕ). 0 ∷ 0 ∷ 0 ∷ 0 ∷ 0 ∷ 13 ∷ 14 ∷ 0 ∷ l)
     (told (heard (done 2 whole)) (map heard (chunk 1 250 piece1 ∷ done 2 whole ∷ init 260 ∷ [])) (holding [] piece0 piece1) 0 (done-right []))
@@ -163,7 +164,7 @@ done-mixed differ = done-number topic whole piece0 old1 ∙ rw differ
 
 late-numbers : Differ → numbers (map heard late) (fresh roleReceive 2) sender ≡ 0 ∷ 0 ∷ 0 ∷ 0 ∷ 0 ∷ 16 ∷ 0 ∷ 0 ∷ []
 unfolding numbers id topic init another chunk done address surveyOf arriving part be num same kindOf header chunkPacket donePacket sameKey
-    equalInFive rise find swap without refusal putPiece initAt chunkAt doneAt kindRow recvStep sendStep tooShort piece0 piece1
+    equalInFive rise find swap without refusal putPiece initAt chunkAt doneAt kindRow recvStep sendStep tooShort cellsFrom piece0 piece1
 late-numbers differ =
     ap (λ (l : List ℕ). 0 ∷ 0 ∷ 0 ∷ 0 ∷ 0 ∷ l)
     (told (heard (done 2 whole)) (map heard (chunk 1 250 piece1 ∷ done 2 whole ∷ [])) (holding topic piece0 old1) 16 (done-mixed differ)

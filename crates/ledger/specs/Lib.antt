@@ -26,6 +26,8 @@ pub mod RepeatedLaws
 pub mod BetweenLaws
 -- what is kept of a chunk is what came
 pub mod CameLaws
+-- what one source leaves to the others
+pub mod SharesLaws
 -- a store that a packet does not concern
 pub mod UntouchedLaws
 -- worked runs

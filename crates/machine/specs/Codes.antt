@@ -86,6 +86,9 @@ badCalendar = 26
 abbrev pub shortFrame : ℕ
 shortFrame = 27
 
+abbrev pub sourceFull : ℕ
+sourceFull = 28
+
 -- ---- marks, roles, kinds, states
 
 -- a number that means yes or no is yes when it is not 0

@@ -1,4 +1,4 @@
--- "Each in one chain", said by counting: how often a place stands in the chains together.
+-- "Each in one chain", said by counting: how often a place stands in the chains together; and a measure of the elements of a list, added up.
 use Prim.Native.Nat.{ℕ, zero, suc, _+_}
 use mathlib.Core.Bool.{Bool, true, _&&_}
 use mathlib.Core.List.{List, [], _∷_}
@@ -28,3 +28,8 @@ once n l = all (inside n) l && each n l
 unfoldable pub rise : ℕ → ℕ → List ℕ
 rise k zero = []
 rise k (suc n) = k ∷ rise (suc k) n
+
+-- a measure of the elements of a list, added up
+abbrev pub total : {A : Type 0} → (A → ℕ) → List A → ℕ
+total f [] = 0
+total f (a ∷ l) = f a + total f l

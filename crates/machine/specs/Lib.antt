@@ -6,6 +6,7 @@ pub mod Tests
 pub mod Rows
 pub mod Chains
 pub mod Counting
+pub mod Sources
 pub mod Layout
 pub mod Sound
 pub mod Find
@@ -27,5 +28,6 @@ pub mod Samples
 pub mod Starred
 pub mod FrontLaws
 pub mod StarredLaws
+pub mod SourcesLaws
 pub mod WorkedLaws
 pub mod TabletLaws

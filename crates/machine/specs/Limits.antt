@@ -44,6 +44,10 @@ cellBytes = 1380
 abbrev pub mostCells : ℕ
 mostCells = 45
 
+-- row 28: "No source may hold more than 30" cells
+abbrev pub mostOfSource : ℕ
+mostOfSource = 30
+
 abbrev pub storeBytes : ℕ → ℕ
 storeBytes cells = headBytes + recCount * recBytes + cellBytes * cells
 

@@ -16,12 +16,13 @@ use Rattle.packet.specs.declared.header.Kind.the-variants.{Init, Chunk, Done, R
 use Rattle.packet.specs.Frame.{has, replyFlag, kindOf, idOf, flagsOf, initLength, initTopic, chunkIndex, chunkOffset, chunkSize, piece, doneCount, doneSum}
 use Rattle.packet.specs.Frame.{isFrame, isEnough}
 use Rattle.packet.specs.Outgoing.{entry, replyPacket, initReply, chunkReply, doneReply}
-use Rattle.machine.specs.Limits.{longest, leastPiece, topOf}
+use Rattle.machine.specs.Limits.{longest, leastPiece, mostOfSource, topOf}
 use Rattle.machine.specs.Codes.{roleReceive, roleSend, stateInit, stateInProgress, stateReceived, stateRead, badFrame, shortOutput, badRules}
 use Rattle.machine.specs.Codes.{closedTopic, alreadyWhole, tooLong, noRecord, pastEnd, highIndex, shortPiece, noCell, wrongCount, gap}
-use Rattle.machine.specs.Codes.{wrongTotal, wrongSum, noKey, wrongState, noSuchPiece, noWork, unsoundStore, shortFrame, yes}
+use Rattle.machine.specs.Codes.{wrongTotal, wrongSum, noKey, wrongState, noSuchPiece, noWork, unsoundStore, shortFrame, sourceFull, yes}
 use Rattle.machine.specs.Values.{Label, Rec, Store, Key}
 use Rattle.machine.specs.Layout.{encode, decode}
+use Rattle.machine.specs.Sources.{heldBy}
 use Rattle.machine.specs.Sound.{sound, sizes}
 use Rattle.machine.specs.Find.{isSome}
 use Rattle.machine.specs.Refusals.{Refusals, refusal, asksOf, heldRow}
@@ -95,11 +96,15 @@ pieceRow index offset size r =
     ∷ (not (tooShort (r .label .total) index offset size), shortPiece)
     ∷ []
 
--- chunk 12
-abbrev pub cellRow : ℕ → Store → Rec → Refusals
-cellRow index s r = (leb (cellsNeeded index r) (length (s .freeCells)), noCell) ∷ []
+-- row 28: "a piece needing a new cell while its record's source holds 30"
+abbrev pub hasShare : ℕ → ℕ → Store → Rec → Bool
+hasShare most index s r = isSome (pieceAt index (r .cells)) || ltb (heldBy (r .label .source) (s .held ++ s .whole)) most
 
--- chunk 8, 9, 10, 11, 12
+-- chunk 28, "just before 12"
+abbrev pub cellRow : ℕ → Store → Rec → Refusals
+cellRow index s r = (hasShare mostOfSource index s r, sourceFull) ∷ (leb (cellsNeeded index r) (length (s .freeCells)), noCell) ∷ []
+
+-- chunk 8, 9, 10, 11, 28, 12
 abbrev pub chunkRow : ℕ → ℕ → ℕ → Store → Option Rec → Refusals
 chunkRow index offset size s o = asksOf o (λ r. pieceRow index offset size r ++ cellRow index s r)
 

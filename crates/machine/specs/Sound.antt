@@ -6,15 +6,16 @@ use mathlib.Core.Bool.{Bool, true, false, _&&_, _||_, not, cond}
 use mathlib.Core.List.{List, [], _∷_, _++_, map}
 use lib.ListN.{length, getD}
 use lib.Dec.{eqb, leb, ltb}
-use Rattle.octets.specs.Octets.{part, Bytes, zeros}
+use Rattle.octets.specs.Octets.{part, zeros}
 use Rattle.octets.specs.Lists.{all}
 use Rattle.packet.specs.Frame.{largestPiece}
-use Rattle.machine.specs.Limits.{longest, cutBy, headBytes, recCount, recBytes, cellBytes, mostCells, storeBytes, slotsOf, mostSlots}
+use Rattle.machine.specs.Limits.{longest, cutBy, headBytes, recCount, recBytes, cellBytes, mostCells, mostOfSource, storeBytes, slotsOf, mostSlots}
 use Rattle.machine.specs.Codes.{roleReceive, kindArriving, kindWhole, kindLeaving, heldKind, stateAborted, pieceSent, pieceAcked, isRole}
 use Rattle.machine.specs.Values.{Cell, Sending, Rec, Store, keyOf, sameKey}
 use Rattle.machine.specs.Tests.{every}
 use Rattle.machine.specs.Rows.{zeroFrom}
 use Rattle.machine.specs.Counting.{inside, once, rise}
+use Rattle.machine.specs.Sources.{fair}
 use Rattle.machine.specs.Layout.{formAt, form, restAt, kindAt, topicSizeAt, topicAt, sizeAt, gapAt, bytesAt, sizeWidth, gapWidth, cellPlace}
 use Rattle.machine.specs.Layout.{recPlace, recAt, cellAt, numAt, decode}
 
@@ -150,7 +151,9 @@ soundTests role b s =
     -- ids unique
     ∷ distinct (s .held ++ s .whole)
     -- a record's kind is its chain's, sizes to 1,364; free ones zero but for next, and the other zeros of the layout
-    ∷ every (shapeTests role b s) ∷ []
+    ∷ every (shapeTests role b s)
+    -- "a receive store with a source above 30 is unsound"
+    ∷ (not (eqb role roleReceive) || fair mostOfSource (s .held ++ s .whole)) ∷ []
 
 -- row 25: bytes are sound, as a store of a role
 unfoldable pub sound : ℕ → List ℕ → Bool

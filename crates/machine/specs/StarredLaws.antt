@@ -7,6 +7,7 @@ use Rattle.packet.specs.Frame.{kindOf}
 use Rattle.packet.specs.Outgoing.{header, chunkPacket, donePacket}
 use Rattle.machine.specs.Values.{sameKey, equalInFive}
 use Rattle.machine.specs.Counting.{rise}
+use Rattle.machine.specs.Sources.{cellsFrom}
 use Rattle.machine.specs.Sound.{sizes}
 use Rattle.machine.specs.Find.{find, swap, without}
 use Rattle.machine.specs.Refusals.{refusal}
@@ -18,7 +19,7 @@ use Rattle.machine.specs.Starred.{Value, starred}
 
 pub starred-hold : All (λ (v : Value). v .gives ≡ v .should) starred
 unfolding starred id topic init another chunk address hear opened part be num same header chunkPacket donePacket kindOf sameKey equalInFive rise sizes find
-    swap without refusal putPiece initAt chunkAt kindRow recvStep tooShort
+    swap without refusal putPiece initAt chunkAt kindRow recvStep tooShort cellsFrom
 starred-hold =
     refl & refl & refl & refl & refl & refl & refl & refl & refl & refl & refl & refl & refl & refl & refl & refl
     & refl & refl & refl & refl & refl & refl & refl & refl & refl & refl & refl & refl & refl & refl & refl & refl

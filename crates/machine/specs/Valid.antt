@@ -9,10 +9,11 @@ use Rattle.octets.specs.Octets.{Bytes}
 use Rattle.octets.specs.Bools.{one}
 use Rattle.octets.specs.Lists.{All}
 use Rattle.packet.specs.Frame.{largestPiece}
-use Rattle.machine.specs.Limits.{largestTopic, recCount, mostCells}
+use Rattle.machine.specs.Limits.{largestTopic, recCount, mostCells, mostOfSource}
 use Rattle.machine.specs.Codes.{roleReceive, kindWhole, heldKind, isRole}
 use Rattle.machine.specs.Values.{Label, Cell, Rec, Store}
 use Rattle.machine.specs.Counting.{occurs, inside}
+use Rattle.machine.specs.Sources.{heldBy}
 use Rattle.machine.specs.Layout.{idWidth, addressWidth, numberLimit}
 use Rattle.machine.specs.Sound.{recFits, noRec, distinct, recPlaces, cellPlaces}
 use Rattle.machine.specs.Typed.{Exactly}
@@ -20,6 +21,10 @@ use Rattle.machine.specs.Typed.{Exactly}
 -- each place from 1 to n stands in a list once, and nothing else does
 abbrev pub Once : ℕ → List ℕ → Type 0
 Once n l = (k : ℕ) → occurs k l ≡ one (inside n k)
+
+-- no source holds more in these records
+abbrev pub Fair : ℕ → List Rec → Type 0
+Fair most l = (source : List ℕ) → heldBy source l ≤ most
 
 -- at most n bytes
 abbrev pub AtMost : ℕ → List ℕ → Type 0
@@ -56,3 +61,4 @@ pub record Valid (role : ℕ) (s : Store) : Type 0 where
   pub cells : Once (s .setup .cells) (cellPlaces s)
   pub ids : distinct (s .held ++ s .whole) ≡ true
   pub sized : All RecSized (s .held ++ s .whole)
+  pub sources : role ≡ roleReceive → Fair mostOfSource (s .held ++ s .whole)

@@ -19,6 +19,7 @@ use Rattle.packet.specs.Outgoing.{header, chunkPacket, donePacket}
 use Rattle.machine.specs.Codes.{roleReceive}
 use Rattle.machine.specs.Values.{Cell, Rec, idle, sameKey, equalInFive}
 use Rattle.machine.specs.Counting.{rise}
+use Rattle.machine.specs.Sources.{cellsFrom}
 use Rattle.machine.specs.Sound.{sizes}
 use Rattle.machine.specs.Find.{find, swap, without}
 use Rattle.machine.specs.Refusals.{refusal}
@@ -102,7 +103,7 @@ mixed-steps : (hear (chunk 0 0 old) (hear (init 3) opened) ≡ m2) × (hear (don
 unfolding old new one m2 m4 m6 m8 m9 id topic init another chunk done address hear opened surveyOf arriving finished part be num same add rotr half mix
     step round rounds start compress chaining rootBlock wordAt blockAt flagsAt before lastNode chunkNode parentNode level
     node bytes blake3 kindOf header chunkPacket donePacket sameKey equalInFive rise sizes find swap without refusal putPiece joined initAt chunkAt doneAt dropAt
-    kindRow recvStep tooShort
+    kindRow recvStep tooShort cellsFrom
 mixed-steps = (refl, refl, refl, refl, refl)
 
 -- the new survey is whole, as it was sent; nothing of the older is left
@@ -136,7 +137,7 @@ pub lossy-steps : (hear (init 260) (hear (init 260) opened) ≡ l2) × (hear (ch
 unfolding piece0 piece1 l2 l4 l6 l8 id init chunk done address hear opened survey surveyOf arriving finished part be num same add rotr half mix
     step round rounds start compress chaining rootBlock wordAt blockAt flagsAt before lastNode chunkNode parentNode level
     node bytes blake3 kindOf header chunkPacket donePacket sameKey equalInFive rise sizes find swap without refusal putPiece joined initAt chunkAt doneAt
-    dropAt kindRow recvStep tooShort
+    dropAt kindRow recvStep tooShort cellsFrom
 lossy-steps = (refl, refl, refl, refl)
 
 -- the done of both pieces is not refused, whatever their sum is

@@ -1,4 +1,4 @@
--- Laws of counting: `once` as a fact, and that a list of places from 1 to n, none twice, is no longer than n. Assumes nothing.
+-- Laws of counting: `once` as a fact, and that a list of places from 1 to n, none twice, is no longer than n; totals add up. Assumes nothing.
 use Prim.Native.Nat.{ℕ, zero, suc, _+_, _≤_, _<_}
 use native.Mathlib.Omega.{arith}
 use native.Mathlib.Decide.{decLt, decLe, ℕ-discrete}
@@ -11,7 +11,7 @@ use borrow.Author.Tests.{eqb-true, eq-eqb, ne-eqb, ltb-true, leb-true, lt-ltb, l
 use Rattle.octets.specs.Bools.{one}
 use Rattle.octets.specs.BoolsLaws.{cases, clash, split, both, one-le}
 use Rattle.octets.specs.Lists.{all, All}
-use Rattle.machine.specs.Counting.{occurs, inside, each, once, rise}
+use Rattle.machine.specs.Counting.{occurs, inside, each, once, rise, total}
 use Rattle.machine.specs.Valid.{Once}
 
 -- ---- occurs
@@ -25,6 +25,10 @@ other k x h = ap one (ne-eqb k x h)
 pub occurs-append : (k : ℕ) (l m : List ℕ) → occurs k (l ++ m) ≡ occurs k l + occurs k m
 occurs-append k [] m = omega arith
 occurs-append k (x ∷ l) m = omega (arith, occurs-append k l m)
+
+pub total-append : {A : Type 0} (f : A → ℕ) (l m : List A) → total f (l ++ m) ≡ total f l + total f m
+total-append f [] m = omega arith
+total-append f (a ∷ l) m = omega (arith, total-append f l m)
 
 -- ---- inside
 
@@ -131,6 +135,16 @@ sum-le (suc n) l h = omega (arith, sum-le n l h, h (suc n))
 
 pub few-short : (n : ℕ) (l : List ℕ) → Few n l → length l ≤ n
 few-short n l h = omega (arith, sum-length n l (few-inside n l h), sum-le n l (λ k. omega (arith, h k, one-le (inside n k))))
+
+-- places from 1 to n, each once, are n
+sum-once : (n : ℕ) (l : List ℕ) → ((k : ℕ) → 0 < k → k ≤ n → occurs k l ≡ 1) → sum n l ≡ n
+unfolding sum
+sum-once zero l h = refl
+sum-once (suc n) l h = omega (arith, sum-once n l (λ k a b. h k a (omega arith)), h (suc n) (omega arith) (omega arith))
+
+pub once-length : (n : ℕ) (l : List ℕ) → Once n l → length l ≡ n
+once-length n l h =
+    omega (arith, sum-length n l (few-inside n l (λ k. omega (arith, h k))), sum-once n l (λ k a b. h k ∙ inside-one n k a b))
 
 -- ---- places that rise
 

@@ -31,6 +31,7 @@ fresh-valid role cells r a b = record {
   recs = λ k. ap (occurs k) (append-nil (rise 1 recCount)) ∙ rise-once recCount k;
   cells = λ k. ap (occurs k) (append-nil (rise 1 cells)) ∙ rise-once cells k;
   sized = tt;
+  sources = λ e source. omega arith;
 }
 
 -- ---- setup

@@ -1,6 +1,7 @@
 pub mod Tests
 pub mod Fields
 pub mod Counting
+pub mod Sources
 pub mod Rows
 pub mod Chains
 pub mod Marks

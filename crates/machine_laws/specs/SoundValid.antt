@@ -2,7 +2,7 @@
 use Prim.Native.Nat.{ℕ, suc, _+_, _-_, _≤_}
 use native.Mathlib.Omega.{arith}
 use mathlib.Core.Path.{_≡_, sym, ap, _∙_, subst}
-use mathlib.Core.Bool.{true, _||_}
+use mathlib.Core.Bool.{true, _||_, not}
 use mathlib.Core.List.{List, [], _∷_, _++_, map}
 use lib.ListN.{length, getD}
 use lib.Dec.{eqb}
@@ -12,12 +12,13 @@ use Rattle.octets.specs.Bools.{one}
 use Rattle.octets.specs.Lists.{all}
 use Rattle.octets.specs.ListsLaws.{all-true, all-join}
 use Rattle.octets.specs.PartsLaws.{part-add}
-use Rattle.machine.specs.Limits.{headBytes, recCount, recBytes, cellBytes, mostCells, storeBytes}
+use Rattle.machine.specs.Limits.{headBytes, recCount, recBytes, cellBytes, mostCells, mostOfSource, storeBytes}
 use Rattle.machine.specs.Codes.{roleReceive, heldKind, kindWhole, isRole}
 use Rattle.machine.specs.Values.{Rec, Store}
 use Rattle.machine.specs.Rows.{Row, zeroFrom}
 use Rattle.machine.specs.Chains.{first, chainRows}
 use Rattle.machine.specs.Counting.{occurs, inside}
+use Rattle.machine.specs.Sources.{fair}
 use Rattle.machine.specs.Valid.{Once, RecSized, Valid}
 use Rattle.machine.specs.Layout.{freeAt, heldAt, wholeAt, freeCellsAt, formAt, form, countAt, roleAt, restAt, recPlace, headRow, headFields, recRow}
 use Rattle.machine.specs.Layout.{piecesRows, encode, recAt, cellAt, recChain, cellChain, readRec, decode}
@@ -26,6 +27,7 @@ use Rattle.machine.specs.Sound.{soundTests, sound}
 use Rattle.machine_laws.specs.Tests.{every-true, all-parts}
 use Rattle.machine_laws.specs.Fields.{gets, gets-is, zeros-part}
 use Rattle.machine_laws.specs.Counting.{inside-is, once-is, occurs-append}
+use Rattle.machine_laws.specs.Sources.{sources-is}
 use Rattle.machine_laws.specs.Rows.{Held, held-join}
 use Rattle.machine_laws.specs.StoreRows.{pieces-append, rows-append, held-recs, held-cells}
 use Rattle.machine_laws.specs.Rep.{Rep, rep-encode}
@@ -69,6 +71,7 @@ module _ (role : ℕ) (b : List ℕ) (y : Bytes b) (t : sound role b ≡ true) w
     pieceShape : all (λ p. cellShape (cellAt b p)) (piecePlaces (held ++ whole)) ≡ true
     recShape₀ : all (λ p. freeShape recBytes (recAt b p)) free ≡ true
     cellShape₀ : all (λ p. freeShape cellBytes (cellAt b p)) freeCells ≡ true
+    sources : (not (eqb role roleReceive) || fair mostOfSource (held ++ whole)) ≡ true
 
   tests : Tests
   unfolding sound decode
@@ -95,6 +98,7 @@ module _ (role : ℕ) (b : List ℕ) (y : Bytes b) (t : sound role b ≡ true) w
         pieceShape = h .1 .1 .0;
         recShape₀ = h .1 .1 .1 .0;
         cellShape₀ = h .1 .1 .1 .1 .0;
+        sources = a .1 .1 .1 .1 .1 .1 .1 .1 .0;
       }
 
   -- places, chain by chain
@@ -149,6 +153,7 @@ module _ (role : ℕ) (b : List ℕ) (y : Bytes b) (t : sound role b ≡ true) w
     recs = tests .recs;
     cells = tests .cells;
     sized = all-join RecSized held whole (heldIs .sized) (wholeIs .sized);
+    sources = sources-is mostOfSource role (held ++ whole) (tests .sources);
   }
 
   head-is : part b 0 headBytes ≡ headRow (decode b)

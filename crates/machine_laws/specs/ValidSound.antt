@@ -10,7 +10,7 @@ use Rattle.octets.specs.Octets.{part, zeros}
 use Rattle.octets.specs.Lists.{all, All}
 use Rattle.octets.specs.ListsLaws.{true-all, all-to, all-of, all-left, all-right, _&_}
 use Rattle.octets.specs.PartsLaws.{part-part}
-use Rattle.machine.specs.Limits.{headBytes, recCount, recBytes, cellBytes, mostCells, storeBytes}
+use Rattle.machine.specs.Limits.{headBytes, recCount, recBytes, cellBytes, mostCells, mostOfSource, storeBytes}
 use Rattle.machine.specs.Codes.{heldKind, kindWhole}
 use Rattle.machine.specs.Values.{Cell, Rec, Store}
 use Rattle.machine.specs.Tests.{every}
@@ -24,6 +24,7 @@ use Rattle.machine.specs.Valid.{CellSized, RecSized, Valid}
 use Rattle.machine_laws.specs.Tests.{true-every, all-append}
 use Rattle.machine_laws.specs.Fields.{pad-zero}
 use Rattle.machine_laws.specs.Counting.{is-inside, is-once}
+use Rattle.machine_laws.specs.Sources.{is-sources}
 use Rattle.machine_laws.specs.Rows.{Held, held-left, held-right}
 use Rattle.machine_laws.specs.Chains.{held-test, held-read}
 use Rattle.machine_laws.specs.FreeRow.{free-map, free-shape}
@@ -138,7 +139,8 @@ module _ (role : ℕ) (s : Store) (v : Valid role s) (b : List ℕ) (rep : Rep s
       ap (λ (x : Store). every (soundTests role b x)) rep-decode
       ∙ true-every (soundTests role b s)
       (is-head & true-all (recFits role (heldKind role)) (s .held) (v .held) & true-all (recFits role kindWhole) (s .whole) (v .whole) & v .kinds
-      & is-once recCount (recPlaces s) (v .recs) & is-once (s .setup .cells) (cellPlaces s) (v .cells) & v .ids & is-shaped & tt)
+      & is-once recCount (recPlaces s) (v .recs) & is-once (s .setup .cells) (cellPlaces s) (v .cells) & v .ids & is-shaped
+      & is-sources mostOfSource role (s .held ++ s .whole) (v .sources) & tt)
 
 -- a valid store's bytes are sound, and read back as the store
 pub valid-sound : (role : ℕ) (s : Store) → Valid role s → (sound role (encode s) ≡ true) × (decode (encode s) ≡ s)

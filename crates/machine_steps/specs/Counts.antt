@@ -6,16 +6,19 @@ use mathlib.Core.Path.{_≡_, refl}
 use mathlib.Core.List.{List, [], _∷_, _++_, map}
 use lib.ListN.{length}
 use lib.Dec.{eqb}
+use Rattle.octets.specs.Octets.{same}
 use Rattle.octets.specs.Bools.{one}
+use Rattle.octets.specs.BoolsLaws.{cases}
 use Rattle.machine.specs.Values.{Rec, Store}
 use Rattle.machine.specs.Chains.{first}
-use Rattle.machine.specs.Counting.{occurs}
+use Rattle.machine.specs.Counting.{occurs, total}
+use Rattle.machine.specs.Sources.{cellsFrom, heldBy}
 use Rattle.machine.specs.Layout.{recPlace, cellPlace}
 use Rattle.machine.specs.Sound.{recPlaces, piecePlaces, cellPlaces}
 use Rattle.machine.specs.Pieces.{rest}
 use Rattle.machine.specs.Receive.{freedCells}
-use Rattle.machine_laws.specs.Counting.{occurs-append}
-use Rattle.machine_steps.specs.Totals.{total, total-append, occurs-total}
+use Rattle.machine_laws.specs.Counting.{occurs-append, total-append}
+use Rattle.machine_steps.specs.Totals.{occurs-total}
 
 -- how often the place k is a record's own, and how often one of its cells'
 abbrev pub ownPlace : ℕ → Rec → ℕ
@@ -53,6 +56,18 @@ occurs-cells k s =
       occurs-pieces k (s .held ++ s .whole),
       total-append (inCells k) (s .held) (s .whole),
     )
+
+-- how many cells a source holds, chain by chain
+abbrev pub fromSource : List ℕ → Store → ℕ
+fromSource a s = total (cellsFrom a) (s .held) + total (cellsFrom a) (s .whole)
+
+pub held-from : (a : List ℕ) (s : Store) → heldBy a (s .held ++ s .whole) ≡ fromSource a s
+held-from a s = total-append (cellsFrom a) (s .held) (s .whole)
+
+-- a record without cells holds none for any source
+pub none-from : (a : List ℕ) (r : Rec) → length (r .cells) ≡ 0 → cellsFrom a r ≡ 0
+unfolding cellsFrom
+none-from a r h = cases (same a (r .label .source)) (λ e. rw e h) (λ e. rw e)
 
 -- the first of some places is taken
 pub occurs-rest : (k : ℕ) (l : List ℕ) → 0 < length l → occurs k (rest l) + one (eqb k (first l)) ≡ occurs k l

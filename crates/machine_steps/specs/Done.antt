@@ -7,17 +7,18 @@ use mathlib.Core.Option.{some}
 use Rattle.octets.specs.ListsLaws.{all-join}
 use Rattle.machine.specs.Codes.{roleReceive, kindArriving, kindWhole}
 use Rattle.machine.specs.Values.{Rec, Store, Key, sameKey}
+use Rattle.machine.specs.Sources.{cellsFrom}
 use Rattle.machine.specs.Sound.{isComplete}
 use Rattle.machine.specs.Valid.{RecSized, Valid}
 use Rattle.machine.specs.Find.{without}
 use Rattle.machine.specs.Receive.{recKey, found, dropped, doneAt}
+use Rattle.machine_laws.specs.Counting.{total-append}
 use Rattle.machine_laws.specs.Fine.{Fine, fine-fits}
 use Rattle.machine_laws.specs.Keys.{key-eq, key-refl}
-use Rattle.machine_steps.specs.Totals.{total-append}
 use Rattle.machine_steps.specs.Find.{all-without, total-without, without-append}
 use Rattle.machine_steps.specs.Unique.{Unique, absent-without, unique-without, unique-last}
 use Rattle.machine_steps.specs.Keys.{distinct-unique}
-use Rattle.machine_steps.specs.Counts.{ownPlace, inCells}
+use Rattle.machine_steps.specs.Counts.{ownPlace, inCells, held-from}
 use Rattle.machine_steps.specs.Keeps.{Fits, keeps-valid}
 use Rattle.machine_steps.specs.Held.{held-own, held-fine, held-sized}
 
@@ -59,5 +60,7 @@ done-valid k r s e c v =
           (unique-without sameKey recKey key-eq key-refl (recKey r) (s .held ++ s .whole) d));
       sized = rw (← u)
           (all-join RecSized l (r ∷ []) (all-without sameKey recKey RecSized (recKey r) (s .held ++ s .whole) (v .sized)) (held-sized roleReceive k r s e v, tt));
+      sources = λ o a.
+          omega (arith, total-without sameKey recKey (cellsFrom a) (recKey r) r (s .held) h, total-append (cellsFrom a) (s .whole) (r ∷ []), held-from a s, v .sources o a);
     })
     v

@@ -6,6 +6,7 @@ use mathlib.Core.List.{_++_}
 use mathlib.Core.Option.{Option, none, some}
 use Rattle.machine.specs.Codes.{heldKind}
 use Rattle.machine.specs.Values.{Rec, Store, Key, sameKey}
+use Rattle.machine.specs.Sources.{cellsFrom}
 use Rattle.machine.specs.Valid.{RecSized, Valid}
 use Rattle.machine.specs.Find.{without}
 use Rattle.machine.specs.Receive.{recKey, found, dropped, dropAt, dropStep}
@@ -13,7 +14,7 @@ use Rattle.machine_laws.specs.Keys.{key-eq, key-refl}
 use Rattle.machine_steps.specs.Find.{all-without, total-without, without-append}
 use Rattle.machine_steps.specs.Unique.{unique-without}
 use Rattle.machine_steps.specs.Keys.{distinct-unique}
-use Rattle.machine_steps.specs.Counts.{ownPlace, inCells, occurs-freed}
+use Rattle.machine_steps.specs.Counts.{ownPlace, inCells, held-from, occurs-freed}
 use Rattle.machine_steps.specs.Keeps.{Fits, keeps-valid}
 use Rattle.machine_steps.specs.Held.{held-own}
 
@@ -34,6 +35,7 @@ drop-at role k (some r) s e v =
       cells = λ n. omega (arith, total-without sameKey recKey (inCells n) (recKey r) r (s .held) h, occurs-freed n r (s .freeCells));
       ids = rw (← u) (unique-without sameKey recKey key-eq key-refl (recKey r) (s .held ++ s .whole) (distinct-unique (s .held ++ s .whole) (v .ids)));
       sized = rw (← u) (all-without sameKey recKey RecSized (recKey r) (s .held ++ s .whole) (v .sized));
+      sources = λ o a. omega (arith, total-without sameKey recKey (cellsFrom a) (recKey r) r (s .held) h, held-from a s, v .sources o a);
     })
     v
 

@@ -14,10 +14,11 @@ use Rattle.octets.specs.Lists.{All}
 use Rattle.octets.specs.ListsLaws.{all-to}
 use Rattle.machine.specs.Codes.{stateInit, stateInProgress, pieceSent}
 use Rattle.machine.specs.Values.{Cell, Rec}
+use Rattle.machine.specs.Counting.{total}
 use Rattle.machine.specs.Sound.{rising}
 use Rattle.machine.specs.Choice.{isStarted, isDue, only, insert, byStamp, waiting, mostSent, chosen, among}
 use Rattle.machine.specs.Send.{marked, withCells, stamped, sentPieces, chunksOut, initOut, doneOut, allAcked, wakeOut, woken}
-use Rattle.machine_steps.specs.Totals.{total, occurs-total}
+use Rattle.machine_steps.specs.Totals.{occurs-total}
 use Rattle.machine_steps.specs.Pieces.{rising-parts}
 use Rattle.machine_steps.specs.Waiting.{wants, indexOf, only-all, gives, total-waiting, wanting, waiting-length}
 use Rattle.machine_steps.specs.Stamps.{among-times, stamped-none}

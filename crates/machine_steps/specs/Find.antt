@@ -8,8 +8,8 @@ use mathlib.Core.List.{List, [], _∷_, _++_}
 use mathlib.Core.Option.{Option, none, some, Option·none-ne-some, Option·some-ne-none, Option·some-injective}
 use Rattle.octets.specs.BoolsLaws.{cases, clash}
 use Rattle.octets.specs.Lists.{All}
+use Rattle.machine.specs.Counting.{total}
 use Rattle.machine.specs.Find.{find, swap, without, isSome}
-use Rattle.machine_steps.specs.Totals.{total}
 
 -- nothing is found where the test says so
 pub is-none : {A : Type 0} (o : Option A) → isSome o ≡ false → o ≡ none

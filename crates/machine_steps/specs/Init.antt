@@ -18,7 +18,7 @@ use Rattle.machine.specs.Valid.{LabelSized, RecSized, Valid}
 use Rattle.machine.specs.Find.{isSome}
 use Rattle.machine.specs.Receive.{recLabel, found, started, freedCells, initAt, initStep}
 use Rattle.machine_laws.specs.Fine.{fine-fits}
-use Rattle.machine_steps.specs.Counts.{occurs-freed}
+use Rattle.machine_steps.specs.Counts.{occurs-freed, held-from, none-from}
 use Rattle.machine_steps.specs.Keeps.{Fits}
 use Rattle.machine_steps.specs.Change.{change-valid, add-valid}
 
@@ -43,10 +43,11 @@ init-at : (o : Option Rec) (h : Label) (s : Store) → found (keyOf h) (s .held)
 unfolding initAt
 init-at none h s e w n g v =
     add-valid roleReceive (started (first (s .free)) h) (s .freeCells) s e w (ltb-true 0 (length (s .free)) n) refl (λ k. omega arith)
-    (started-fits (first (s .free)) h g) (started-sized (first (s .free)) h (g .sized)) v
+    (started-fits (first (s .free)) h g) (started-sized (first (s .free)) h (g .sized)) (λ o a. none-from a (started (first (s .free)) h) refl) v
 init-at (some r) h s e w n g v =
     change-valid roleReceive r (started (r .place) h) (freedCells r (s .freeCells)) s e refl (λ k. omega (arith, occurs-freed k r (s .freeCells)))
-    (started-fits (r .place) h g) (started-sized (r .place) h (g .sized)) v
+    (started-fits (r .place) h g) (started-sized (r .place) h (g .sized))
+    (λ o a. omega (arith, none-from a (started (r .place) h) refl, held-from a s, v .sources o a)) v
 
 -- the id is not whole, and it is held or a record is free
 module _ (h : Label) (s : Store) (w : found (keyOf h) (s .whole) ≡ none) (n : (isSome (found (keyOf h) (s .held)) || ltb 0 (length (s .free))) ≡ true)

@@ -17,6 +17,7 @@ pub mod Take
 pub mod Frames
 pub mod Behind
 pub mod Valid
+pub mod Shares
 pub mod Waiting
 pub mod Stamps
 pub mod Eight

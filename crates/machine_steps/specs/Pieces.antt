@@ -5,6 +5,7 @@ use mathlib.Core.Path.{_≡_, refl, sym, ap, _∙_}
 use mathlib.Core.Bool.{true, false, cond, _&&_, _||_}
 use mathlib.Core.List.{List, [], _∷_, map}
 use mathlib.Core.Option.{Option, none, some, Option·map, Option·some-ne-none}
+use lib.ListN.{length, length-map}
 use lib.Dec.{eqb, leb, ltb}
 use borrow.Author.Tests.{eqb-true, eqb-false, eq-eqb, ne-eqb, leb-true, le-leb, ltb-true, ltb-false, lt-ltb}
 use Rattle.octets.specs.Bools.{one}
@@ -111,6 +112,20 @@ module _ (place index : ℕ) (bytes : List ℕ) where
       (λ e. cases (eqb index (c .index))
       (λ g. rw (e, g))
       (λ g. rw (e, g) (ap (λ (x : List ℕ). c .place ∷ x) (places-put-held (suc (c .index)) high l (s .2) (rw g at h)))))
+
+  -- so there is one more at most, and none at a held index
+  pub length-put : (l : List Cell) → length (putPiece place index bytes l) ≤ suc (length l)
+  unfolding putPiece
+  length-put [] = omega arith
+  length-put (c ∷ l) =
+      cases (ltb index (c .index))
+      (λ e. rw e (omega arith))
+      (λ e. cases (eqb index (c .index)) (λ g. rw (e, g) (omega arith)) (λ g. rw (e, g) (omega (arith, length-put l))))
+
+  pub length-put-held : (low high : ℕ) (l : List Cell) → rising low high l ≡ true → isSome (pieceAt index l) ≡ true
+      → length (putPiece place index bytes l) ≡ length l
+  length-put-held low high l r h =
+      sym (length-map (putPiece place index bytes l) cellPlace) ∙ ap length (places-put-held low high l r h) ∙ length-map l cellPlace
 
   -- the new piece at its index, what was there at every other
   pub bytes-put : (j : ℕ) (l : List Cell) → pieceBytes j (putPiece place index bytes l) ≡ cond (eqb j index) (some bytes) (pieceBytes j l)

@@ -78,7 +78,7 @@ pushed-valid h created end bytes s n a c g e b x y v =
     add-valid roleSend q (drop (slotsOf (length bytes)) (s .freeCells)) s n (rw (leaving-whole s v)) a refl
     (λ k. omega (arith, occurs-cut k (slotsOf (length bytes)) 0 (s .freeCells) bytes c))
     (fine-fits roleSend kindLeaving q (leaving-fine (first (s .free)) h created end bytes (s .freeCells) g b e))
-    (leaving-sized (first (s .free)) h created end bytes (s .freeCells) g b x y) v
+    (leaving-sized (first (s .free)) h created end bytes (s .freeCells) g b x y) (λ o. absurd (omega (arith, o))) v
 
 -- the row that answers 0 bounds each field: row 24 created and end, 21 the topic, 6 the length
 pub push-valid : (p : Push) (send out : List ℕ) → TypedPush p → Valid roleSend (decode send) → refusal (pushRow p send out) ≡ 0

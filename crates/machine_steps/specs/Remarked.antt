@@ -1,5 +1,6 @@
 -- A leaving record that gets another state, timed-out mark or marks of its pieces leaves a send store valid. Assumes nothing.
 use Prim.Native.Nat.{ℕ, _+_, _≤_}
+use native.Mathlib.Omega.{arith}
 use mathlib.Core.Path.{_≡_, refl, ap, _∙_}
 use mathlib.Core.Bool.{true}
 use mathlib.Core.List.{List, [], _∷_, map}
@@ -64,7 +65,7 @@ module _ (k : Key) (r : Rec) (s : Store) (e : found k (s .held) ≡ some r) (v :
       change-valid roleSend r q (s .freeCells) s (held-own k r s e) refl
       (λ j. ap (λ (l : List ℕ). occurs j (s .freeCells) + occurs j l) (places-map f m (r .cells)))
       (fine-fits roleSend kindLeaving q (remarked-fine state out f r m a b (held-fine roleSend k r s e v)))
-      (remarked-sized state out f r m (held-sized roleSend k r s e v)) v
+      (remarked-sized state out f r m (held-sized roleSend k r s e v)) (λ o. absurd (omega (arith, o))) v
 
   -- its state and its timed-out mark
   pub restated-valid : (state out : ℕ) → state ≤ stateAborted → out ≤ 1 → Valid roleSend (changed (remarked state out (r .cells) r) (s .freeCells) s)

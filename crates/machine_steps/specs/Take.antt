@@ -5,12 +5,13 @@ use mathlib.Core.List.{List, [], _∷_, _++_}
 use Rattle.octets.specs.Lists.{All}
 use Rattle.machine.specs.Codes.{roleReceive, kindWhole}
 use Rattle.machine.specs.Values.{Rec, Store, sameKey}
+use Rattle.machine.specs.Counting.{total}
+use Rattle.machine.specs.Sources.{cellsFrom}
 use Rattle.machine.specs.Valid.{RecSized, Valid}
 use Rattle.machine.specs.Receive.{recKey, takeFrom, takeStep}
-use Rattle.machine_steps.specs.Totals.{total}
 use Rattle.machine_steps.specs.Unique.{all-skip, unique-skip}
 use Rattle.machine_steps.specs.Keys.{distinct-unique}
-use Rattle.machine_steps.specs.Counts.{ownPlace, inCells, occurs-freed}
+use Rattle.machine_steps.specs.Counts.{ownPlace, inCells, held-from, occurs-freed}
 use Rattle.machine_steps.specs.Keeps.{Fits, keeps-valid}
 
 take-from : (l : List Rec) (s : Store) → s .whole ≡ l → Valid roleReceive s → Valid roleReceive (takeFrom l s)
@@ -28,6 +29,7 @@ take-from (r ∷ l) s e v =
       cells = λ k. omega (arith, ap (total (inCells k)) e, occurs-freed k r (s .freeCells));
       ids = unique-skip sameKey recKey r (s .held) l (distinct-unique (s .held ++ (r ∷ l)) (rw e at (v .ids)));
       sized = all-skip RecSized r (s .held) l (rw e at (v .sized));
+      sources = λ o a. omega (arith, ap (total (cellsFrom a)) e, held-from a s, v .sources o a);
     })
     v
 

@@ -45,7 +45,8 @@ unfolding chunkAt
 chunk-row k none index offset size bytes s e b v z = v
 chunk-row k (some r) index offset size bytes s e b v z =
     let c = refusal-clear (chunkRow index offset size s (some r)) refl z in
-    chunk-valid k index bytes r s e (leb-true index (topOf (r .label .total)) (c .1 .0)) (leb-true (cellsNeeded index r) (length (s .freeCells)) (c .1 .1 .1 .0)) b v
+    chunk-valid k index bytes r s e (leb-true index (topOf (r .label .total)) (c .1 .0)) (c .1 .1 .1 .0)
+    (leb-true (cellsNeeded index r) (length (s .freeCells)) (c .1 .1 .1 .1 .0)) b v
 
 done-row : (k : Key) (o : Option Rec) (count : ℕ) (sum : List ℕ) (known : Bool) (s : Store) → found k (s .held) ≡ o → Valid roleReceive s
     → refusal (doneRow count sum known o) ≡ 0 → Valid roleReceive (doneAt o s)

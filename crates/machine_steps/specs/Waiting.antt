@@ -15,11 +15,12 @@ use Rattle.octets.specs.ListsLaws.{all-true, all-to, all-left, all-join}
 use Rattle.machine.specs.Limits.{resendAfter}
 use Rattle.machine.specs.Codes.{pieceStarted, pieceSent, pieceAcked}
 use Rattle.machine.specs.Values.{Cell}
-use Rattle.machine.specs.Counting.{occurs}
+use Rattle.machine.specs.Counting.{occurs, total}
 use Rattle.machine.specs.Sound.{rising}
 use Rattle.machine.specs.Choice.{isStarted, isDue, only, insert, byStamp, waiting, mostSent, chosen}
 use Rattle.machine.specs.Send.{marked, allAcked}
-use Rattle.machine_steps.specs.Totals.{total, total-append, occurs-total}
+use Rattle.machine_laws.specs.Counting.{total-append}
+use Rattle.machine_steps.specs.Totals.{occurs-total}
 use Rattle.machine_steps.specs.Pieces.{rising-parts}
 
 -- a piece wants sending

@@ -47,8 +47,8 @@ unfolding refusal tooShort cellsFrom cutPieces rise same find
 limit-order = (refl, refl)
 
 -- 30 in two records are fair, 31 are not, 31 of two sources are
-pub limit-fair : (fair mostOfSource (recordOf 1 7 29 1 ∷ recordOf 2 7 1 30 ∷ []) ≡ true) × (fair mostOfSource (recordOf 1 7 29 1 ∷ recordOf 2 7 2 30 ∷ []) ≡ false)
-    × (fair mostOfSource (recordOf 1 7 29 1 ∷ recordOf 2 8 2 30 ∷ []) ≡ true)
+pub limit-fair : (fair mostOfSource (recordOf 1 7 29 1 ∷ recordOf 2 7 1 30 ∷ []) ≡ true)
+    × (fair mostOfSource (recordOf 1 7 29 1 ∷ recordOf 2 7 2 30 ∷ []) ≡ false) × (fair mostOfSource (recordOf 1 7 29 1 ∷ recordOf 2 8 2 30 ∷ []) ≡ true)
 unfolding fair cellsFrom cutPieces rise same
 limit-fair = (refl, refl, refl)
 

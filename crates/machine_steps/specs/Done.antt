@@ -61,6 +61,7 @@ done-valid k r s e c v =
       sized = rw (← u)
           (all-join RecSized l (r ∷ []) (all-without sameKey recKey RecSized (recKey r) (s .held ++ s .whole) (v .sized)) (held-sized roleReceive k r s e v, tt));
       sources = λ o a.
-          omega (arith, total-without sameKey recKey (cellsFrom a) (recKey r) r (s .held) h, total-append (cellsFrom a) (s .whole) (r ∷ []), held-from a s, v .sources o a);
+          let whole = total-append (cellsFrom a) (s .whole) (r ∷ []) in
+          omega (arith, total-without sameKey recKey (cellsFrom a) (recKey r) r (s .held) h, whole, held-from a s, v .sources o a);
     })
     v

@@ -57,6 +57,9 @@ pub const COUNT: usize = 8;
 // One step more than there are records: a walk along a chain of sound bytes has ended before.
 pub const STEPS: usize = COUNT + 1;
 
+// The most cells that the records of one source hold together.
+pub const MOST_OF_SOURCE: u64 = 30;
+
 // Where the record at a place starts.
 pub fn record_at(place: usize) -> usize
     requires { ⌜ (1 ≤ place) × (place ≤ recCount) ⌝ }

@@ -28,7 +28,7 @@ use Rattle.rows.specs.declared.Holds.the-variants.{Piece}
 use Rattle.rows.specs.Asked.{pieceFits}
 use Rattle.soundness.specs.declared.chain.Table.{Table}
 use Rattle.soundness.specs.Walked.{cellTable, Room, chainMarked, piecesAt, piecesOf, piecesMarked, readable, complete}
-use Rattle.soundness.specs.Walked.{nextCut, piecesFit, recordPieces, keyAt, unlike, recordsFit}
+use Rattle.soundness.specs.Walked.{nextCut, piecesFit, recordPieces, pieceCount, keyAt, unlike, recordsFit}
 use Rattle.soundness.proofs.Walking.{piece-chain, walk-end, walk-out, walk-on, walk-all, walk-in}
 
 -- ---- records, as the code reads them
@@ -53,6 +53,9 @@ module _ (b : List ℕ) (x first : ℕ) (row : List ℕ) (e : row ≡ recAt b x)
   record-asks kind slots total w s l q =
       q ∙ (λ i. piecesFit kind (s i) (l i) (readCells b (f i)))
       ∙ ap (λ (r : List ℕ). piecesFit kind (getD r slotsAt 0) (numAt numberWidth r totalAt) (readCells b (getD r firstCellAt 0))) e
+
+  pub record-counts : {n : ℕ} → n ≡ pieceCount b first → n ≡ length (piecesAt b x)
+  record-counts q = q ∙ ap (pieceCount b) (f ∙ ap (λ (l : List ℕ). getD l firstCellAt 0) e)
 
 -- ---- the turns of a loop along a chain of records
 
@@ -91,7 +94,7 @@ module _ {b : List ℕ} {x n : ℕ} (w : Way b x n) where
     pub way-at : (0 < x) × (x ≤ recCount)
     way-at = walk-in (link (recAt b)) recCount (suc recCount) n x h s (w .within)
 
-    goes : {y : ℕ} → y ≡ link (recAt b) x → onward b n x ≡ x ∷ onward b (n + 1) y
+    pub goes : {y : ℕ} → y ≡ link (recAt b) x → onward b n x ≡ x ∷ onward b (n + 1) y
     goes {y} e = walk-on (link (recAt b)) (suc recCount) n x y h s (sym e)
 
     pub way-on : {y : ℕ} → y ≡ link (recAt b) x → Way b y (n + 1)
@@ -181,13 +184,14 @@ module _ (kind slots total : ℕ) where
 abbrev pub ahead : List ℕ → ℕ → ℕ → List ℕ
 ahead b n x = walk (link (cellAt b)) (suc mostCells - n) x
 
--- at x after n pieces: the cells ahead can be read, and what is asked of them is what is asked of all
+-- at x after n pieces: the cells ahead can be read, what is asked of them is what is asked of all, and they are all but n
 pub record Turn (cells : ℕ) (b : List ℕ) (kind slots total first x n low sum left : ℕ) (cut : Bool) : Type 0 where
   pub turns : n ≤ suc mostCells
   pub small : sum ≤ 65536 * n
   pub byte : low ≤ 256
   pub reads : all (readable cells b) (ahead b n x) ≡ true
   pub gives : piecesFit kind slots total (readCells b first) ≡ restFits kind slots total low n sum left cut (map (readCell b) (ahead b n x))
+  pub counts : n + length (ahead b n x) ≡ pieceCount b first
 
 module _ {cells : ℕ} {b : List ℕ} {kind slots total first x n low sum left : ℕ} {cut : Bool}
     (t : Turn cells b kind slots total first x n low sum left cut) where
@@ -206,6 +210,13 @@ module _ {cells : ℕ} {b : List ℕ} {kind slots total first x n low sum left :
 
   pub fit-out : suc mostCells ≤ n → complete kind slots total n sum (cut && eqb left 0) ≡ asked
   fit-out h = ends (walk-out (link (cellAt b)) (suc mostCells) n x h)
+
+  -- .. and all are counted
+  pub count-end : x ≡ 0 → n ≡ pieceCount b first
+  count-end e = omega (arith, t .counts, ap length (walk-end (link (cellAt b)) (suc mostCells - n) x e))
+
+  pub count-out : suc mostCells ≤ n → n ≡ pieceCount b first
+  count-out h = omega (arith, t .counts, ap length (walk-out (link (cellAt b)) (suc mostCells) n x h))
 
   -- a cell is there
   module _ (h : n < suc mostCells) (s : x ≡ 0 → ⊥) where
@@ -257,4 +268,5 @@ module _ {cells : ℕ} {b : List ℕ} {kind slots total first x n low sum left :
                 reads = walk-all (link (cellAt b)) (readable cells b) (suc mostCells) n x y h s leads (t .reads) .1;
                 gives = t .gives ∙ goes-on y leads
                     ∙ rest-more kind slots total low n sum left cut (readCell b x) _ index index-is size next rest o u size-is p r;
+                counts = omega (arith, t .counts, ap length (walk-on (link (cellAt b)) (suc mostCells) n x y h s leads));
               }

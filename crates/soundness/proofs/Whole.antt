@@ -10,12 +10,13 @@ use borrow.Author.Tests.{eqb-true}
 use Rattle.octets.specs.BoolsLaws.{cases, clash, split, both, iff}
 use Rattle.octets.specs.Lists.{all}
 use Rattle.octets.specs.ListsLaws.{all-true, true-all, all-to, all-zip, all-map, map-all, _&_}
-use Rattle.machine.specs.Limits.{recCount, recBytes, cellBytes, mostCells, storeBytes}
+use Rattle.machine.specs.Limits.{recCount, recBytes, cellBytes, mostCells, mostOfSource, storeBytes}
 use Rattle.machine.specs.Codes.{roleReceive, heldKind, kindArriving, kindWhole, kindLeaving}
 use Rattle.machine.specs.Values.{Rec, keyOf, sameKey}
 use Rattle.machine.specs.Tests.{every}
 use Rattle.machine.specs.Chains.{walk}
 use Rattle.machine.specs.Counting.{inside, each, once}
+use Rattle.machine.specs.Sources.{fair}
 use Rattle.machine.specs.Layout.{freeAt, heldAt, wholeAt, freeCellsAt, countAt, slotsAt, sizeAt, sizeWidth, cellPlace, recPlace, recRow, cellRow, recAt}
 use Rattle.machine.specs.Layout.{cellAt, numAt, cellOf, recOf, labelOf, sendingOf, recChain, cellChain, readCell, readCells, readRec, decode}
 use Rattle.machine.specs.Sound.{headTests, cellFits, recTests, recFits, noRec, distinct, recPlaces, piecePlaces}
@@ -28,7 +29,8 @@ use Rattle.machine_laws.specs.Marks.{three-is}
 use Rattle.machine_laws.specs.StoreRows.{pieces-append}
 use Rattle.rows.specs.Asked.{headFits, ownTests, recordFits, pieceFits}
 use Rattle.soundness.specs.Walked.{Room, RecordsInside, Chained, piecesAt, piecesOf, noMarks, recordsOnce}
-use Rattle.soundness.specs.Walked.{cellsOnce, readable, piecesFit, recordPieces, unlike, recordsFit}
+use Rattle.soundness.specs.Walked.{cellsOnce, readable, piecesFit, recordPieces, unlike, recordsFit, counted, noCounts, fairOn}
+use Rattle.soundness.proofs.Shares.{fair-two}
 
 -- ---- lists
 
@@ -302,6 +304,7 @@ module _ (role : ℕ) (b : List ℕ) where
     kinds : (eqb role roleReceive || eqb (getD b wholeAt 0) 0) ≡ true
     held : recordsFit (heldKind role) b P₁ P₂ ≡ true
     whole : recordsFit kindWhole b P₂ (recChain b 0) ≡ true
+    sources : (not (eqb role roleReceive) || fair mostOfSource (recsAt b P₁ ++ recsAt b P₂)) ≡ true
 
   rec-list : recPlaces (decode b) ≡ P₀ ++ (P₁ ++ P₂)
   unfolding decode
@@ -348,6 +351,7 @@ module _ (role : ℕ) (b : List ℕ) where
         whole =
             fit-is b kindWhole P₂ (recChain b 0)
             ∙ both (all (recordPieces kindWhole b) P₂) (apart b P₂ (recChain b 0)) (whole .pieces) (apart-is ∙ keys .1);
+        sources = a .1 .1 .1 .1 .1 .1 .1 .1 .0;
       }
 
   found-sound : Found → sound role b ≡ true
@@ -369,7 +373,7 @@ module _ (role : ℕ) (b : List ℕ) where
       ((ap (all (λ p. recShape (heldKind role) (recAt b p))) (recs-places b P₁) ∙ held .shapes)
       & (ap (all (λ p. recShape kindWhole (recAt b p))) (recs-places b P₂) ∙ whole .shapes)
       & pieces & f .records .free & f .cells .free & tt)
-      & tt)
+      & f .sources & tt)
 
   -- ---- what the code learns on its way
 
@@ -416,29 +420,59 @@ module _ (role : ℕ) (b : List ℕ) where
     pub whole-chained : Chained C b (getD b wholeAt 0)
     whole-chained = record { room = r; within = records-inside h .whole; pieces = pieces-readable (piecesOf b P₂) (places-in .1) (cells-found r g .whole) }
 
-    -- the last tests decide
-    decided : headFits role b ≡ true → (x y : Bool) → x ≡ recordsFit (heldKind role) b P₁ P₂ → y ≡ recordsFit kindWhole b P₂ (recChain b 0)
-        → ((eqb role roleReceive || eqb (getD b wholeAt 0) 0) && (x && y)) ≡ sound role b
-    decided f x y p q = iff ((eqb role roleReceive || eqb (getD b wholeAt 0) 0) && (x && y)) (sound role b) to from
-      where
-        to : ((eqb role roleReceive || eqb (getD b wholeAt 0) 0) && (x && y)) ≡ true → sound role b ≡ true
-        to t =
-            let s = split (eqb role roleReceive || eqb (getD b wholeAt 0) 0) (x && y) t in
-            let u = split x y (s .1) in
-            found-sound (record { head = f; records = records-found h; cells = cells-found r g; kinds = s .0; held = sym p ∙ u .0; whole = sym q ∙ u .1 })
+    -- the last tests decide; where the records fit, their pieces are counted
+    module _ (f : headFits role b ≡ true) (m : List ℕ) (x y : Bool) (p : x ≡ recordsFit (heldKind role) b P₁ P₂)
+        (q : y ≡ recordsFit kindWhole b P₂ (recChain b 0)) (n : x ≡ true → y ≡ true → m ≡ counted b P₂ (counted b P₁ noCounts)) where
+      abbrev fits : Bool
+      fits = (eqb role roleReceive || eqb (getD b wholeAt 0) 0) && (x && y)
 
-        from : sound role b ≡ true → ((eqb role roleReceive || eqb (getD b wholeAt 0) 0) && (x && y)) ≡ true
-        from t =
-            let d = sound-found t in
-            both (eqb role roleReceive || eqb (getD b wholeAt 0) 0) (x && y) (d .kinds) (both x y (p ∙ d .held) (q ∙ d .whole))
+      abbrev shared : Bool
+      shared = not (eqb role roleReceive) || (fairOn mostOfSource b m P₁ P₂ && fairOn mostOfSource b m P₂ (recChain b 0))
 
-    pub sound-is : headFits role b ≡ true → (kind held whole : ℕ) (x y : Bool) → kind ≡ heldKind role → held ≡ getD b heldAt 0 → whole ≡ getD b wholeAt 0
-        → x ≡ recordsFit kind b (recChain b held) (recChain b whole) → y ≡ recordsFit kindWhole b (recChain b whole) (recChain b 0)
-        → ((eqb role roleReceive || eqb whole 0) && (x && y)) ≡ sound role b
-    sound-is f kind held whole x y k h w p q =
-        ap (λ (n : ℕ). (eqb role roleReceive || eqb n 0) && (x && y)) w
-        ∙ decided f x y (p ∙ (λ i. recordsFit (k i) b (recChain b (h i)) (recChain b (w i))))
-        (q ∙ ap (λ (n : ℕ). recordsFit kindWhole b (recChain b n) (recChain b 0)) w)
+      shared-is : x ≡ true → y ≡ true → (not (eqb role roleReceive) || fair mostOfSource (recsAt b P₁ ++ recsAt b P₂)) ≡ shared
+      shared-is u w =
+          ap (λ (z : Bool). not (eqb role roleReceive) || z)
+          (fair-two b mostOfSource P₁ P₂ (records-inside h .held) (records-inside h .whole) m (n u w)
+          ∙ ap (λ (l : List ℕ). fairOn mostOfSource b m P₁ P₂ && fairOn mostOfSource b m P₂ l) (sym (no-chain b)))
+
+      decided : (fits && shared) ≡ sound role b
+      decided = iff (fits && shared) (sound role b) to from
+        where
+          to : (fits && shared) ≡ true → sound role b ≡ true
+          to t =
+              let s = split fits shared t in
+              let k = split (eqb role roleReceive || eqb (getD b wholeAt 0) 0) (x && y) (s .0) in
+              let u = split x y (k .1) in
+              found-sound (record {
+                head = f;
+                records = records-found h;
+                cells = cells-found r g;
+                kinds = k .0;
+                held = sym p ∙ u .0;
+                whole = sym q ∙ u .1;
+                sources = shared-is (u .0) (u .1) ∙ s .1;
+              })
+
+          from : sound role b ≡ true → (fits && shared) ≡ true
+          from t =
+              let d = sound-found t in
+              let u : x ≡ true = p ∙ d .held in
+              let w : y ≡ true = q ∙ d .whole in
+              both fits shared (both (eqb role roleReceive || eqb (getD b wholeAt 0) 0) (x && y) (d .kinds) (both x y u w)) (sym (shared-is u w) ∙ d .sources)
+
+    pub sound-is : headFits role b ≡ true → (kind held whole : ℕ) (x y z : Bool) (m₁ m : List ℕ) → kind ≡ heldKind role → held ≡ getD b heldAt 0
+        → whole ≡ getD b wholeAt 0 → (x ≡ recordsFit kind b (recChain b held) (recChain b whole)) × (x ≡ true → m₁ ≡ counted b (recChain b held) noCounts)
+        → (y ≡ recordsFit kindWhole b (recChain b whole) (recChain b 0)) × (y ≡ true → m ≡ counted b (recChain b whole) m₁)
+        → z ≡ (not (eqb role roleReceive)
+        || (fairOn mostOfSource b m (recChain b held) (recChain b whole) && fairOn mostOfSource b m (recChain b whole) (recChain b 0)))
+        → (((eqb role roleReceive || eqb whole 0) && (x && y)) && z) ≡ sound role b
+    sound-is f kind held whole x y z m₁ m k a e p q s =
+        let one : recChain b held ≡ P₁ = ap (recChain b) a in
+        let two : recChain b whole ≡ P₂ = ap (recChain b) e in
+        (λ i. ((eqb role roleReceive || eqb (e i) 0) && (x && y))
+        && (s ∙ (λ j. not (eqb role roleReceive) || (fairOn mostOfSource b m (one j) (two j) && fairOn mostOfSource b m (two j) (recChain b 0)))) i)
+        ∙ decided f m x y (p .0 ∙ (λ i. recordsFit (k i) b (one i) (two i))) (q .0 ∙ ap (λ (l : List ℕ). recordsFit kindWhole b l (recChain b 0)) two)
+        (λ u w. q .1 w ∙ (λ i. counted b (two i) ((p .1 u ∙ ap (λ (l : List ℕ). counted b l noCounts) one) i)))
 
   -- the same of numbers that the code has read
   pub room-at : (cells : ℕ) → cells ≡ C → Room C b → Room cells b

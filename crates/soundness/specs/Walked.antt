@@ -1,19 +1,20 @@
--- What each function of the check computes, over machine's definitions: chains walked with marks, the pieces of records, and the keys of records.
+-- What each function of the check computes, over machine's definitions: chains walked with marks, the pieces of records, and the keys and sources of
+-- records.
 -- Together they are `sound`: Checked says so.
 use Prim.Native.Nat.{ℕ, suc, _+_, _*_, _≤_, _<_}
 use mathlib.Core.Path.{_≡_}
 use mathlib.Core.Bool.{Bool, true, _&&_, _||_, not, cond}
 use mathlib.Core.List.{List, [], _∷_, _++_}
-use lib.ListN.{length, getD, replicate}
+use lib.ListN.{length, getD, set, replicate}
 use lib.Dec.{eqb, leb, ltb}
-use Rattle.octets.specs.Octets.{part}
+use Rattle.octets.specs.Octets.{part, same}
 use Rattle.octets.specs.Lists.{all}
 use Rattle.machine.specs.Limits.{headBytes, recCount, recBytes, cellBytes, mostCells, storeBytes, cutBy}
 use Rattle.machine.specs.Codes.{heldKind, kindArriving, kindWhole, kindLeaving}
 use Rattle.machine.specs.Values.{Cell, Key, keyOf, sameKey}
 use Rattle.machine.specs.Rows.{rowOff}
 use Rattle.machine.specs.Chains.{link, walk}
-use Rattle.machine.specs.Counting.{inside}
+use Rattle.machine.specs.Counting.{inside, total}
 use Rattle.machine.specs.Layout.{freeAt, heldAt, wholeAt, freeCellsAt, firstCellAt, slotsAt, totalAt, sizeAt, sizeWidth}
 use Rattle.machine.specs.Layout.{numberWidth, recAt, cellAt, numAt, labelOf, recChain, cellChain, readCells}
 use Rattle.machine.specs.Sound.{rising, sizes, isCut}
@@ -103,6 +104,10 @@ piecesFit kind slots total cs = rising 0 slots cs && complete kind slots total (
 unfoldable pub recordPieces : ℕ → List ℕ → ℕ → Bool
 recordPieces kind b p = piecesFit kind (getD (recAt b p) slotsAt 0) (numAt numberWidth (recAt b p) totalAt) (readCells b (getD (recAt b p) firstCellAt 0))
 
+-- how many pieces there are from the first one on
+abbrev pub pieceCount : List ℕ → ℕ → ℕ
+pieceCount b first = length (cellChain b first)
+
 -- ---- keys
 
 abbrev pub keyAt : List ℕ → ℕ → Key
@@ -115,6 +120,28 @@ unlike b p q = not (sameKey (keyAt b p) (keyAt b q))
 unfoldable pub recordsFit : ℕ → List ℕ → List ℕ → List ℕ → Bool
 recordsFit kind b [] m = true
 recordsFit kind b (p ∷ l) m = (recordPieces kind b p && (all (unlike b p) l && all (unlike b p) m)) && recordsFit kind b l m
+
+-- ---- sources
+
+-- m, with the number of its pieces at the place of each record at ps; no number is there at first
+unfoldable pub counted : List ℕ → List ℕ → List ℕ → List ℕ
+counted b [] m = m
+counted b (p ∷ ps) m = counted b ps (set m p (length (piecesAt b p)))
+
+abbrev pub noCounts : List ℕ
+noCounts = replicate (suc recCount) 0
+
+abbrev pub sourceOf : List ℕ → ℕ → List ℕ
+sourceOf b p = labelOf (recAt b p) .source
+
+-- the cells that the record at q holds for the source of the record at p, by the counts m
+unfoldable pub shareAt : List ℕ → List ℕ → ℕ → ℕ → ℕ
+shareAt b m p q = cond (same (sourceOf b p) (sourceOf b q)) (getD m q 0) 0
+
+-- the source of each record at l holds so many at most, in it, the later ones and those at o
+unfoldable pub fairOn : ℕ → List ℕ → List ℕ → List ℕ → List ℕ → Bool
+fairOn most b m [] o = true
+fairOn most b m (p ∷ l) o = leb (getD m p 0 + (total (shareAt b m p) l + total (shareAt b m p) o)) most && fairOn most b m l o
 
 -- ---- what is known before a part is read
 

@@ -6,6 +6,7 @@ pub mod chain;
 pub mod fresh;
 pub mod pieces;
 pub mod records;
+pub mod sources;
 pub mod store;
 
 pub use fresh::setup;

@@ -7,7 +7,7 @@ ghost use Rattle.octets.specs.Lists.{all};
 ghost use Rattle.machine.specs.Limits.{cutBy, recCount};
 ghost use Rattle.machine.specs.Counting.{inside};
 ghost use Rattle.machine.specs.Layout.{cellAt, recChain, cellChain, readCells};
-ghost use Rattle.soundness.specs.Walked.{Room, piecesMarked, readable, complete, nextCut, piecesFit};
+ghost use Rattle.soundness.specs.Walked.{Room, piecesMarked, readable, complete, nextCut, piecesFit, pieceCount};
 
 // Walks the chain of pieces of each record from `first` on and marks their places.
 pub fn marked(
@@ -87,10 +87,19 @@ fn cell(s: &[u8], cells: usize, x: usize) -> &[u8]
     &s[off..off + rows::cell::BYTES]
 }
 
+// Whether pieces are as asked, and then how many they are.
+pub struct Pieces {
+    pub fine: bool,
+    pub count: u8,
+}
+
 // Whether the pieces from `first` on are those of a record of the kind, with so many slots and that length.
-pub fn fit(s: &[u8], cells: usize, first: usize, kind: u64, slots: u64, length: u64) -> bool
+pub fn fit(s: &[u8], cells: usize, first: usize, kind: u64, slots: u64, length: u64) -> Pieces
     requires { ⌜ Room cells (now s) × (all (readable cells (now s)) (cellChain (now s) first) ≡ true) ⌝ }
-    ensures { λ r. ⌜ r ≡ piecesFit kind slots length (readCells (now (s .entry)) first) ⌝ }
+    ensures { λ r.
+        let b = now (s .entry) in
+        ⌜ (r .fine ≡ piecesFit kind slots length (readCells b first))
+        × (r .fine ≡ true → r .count ≡ pieceCount b first) ⌝ }
 {
     let mut x: usize = first;
     let mut n: u64 = 0;
@@ -100,15 +109,25 @@ pub fn fit(s: &[u8], cells: usize, first: usize, kind: u64, slots: u64, length: 
     let mut cut = true;
     while n < STEPS {
         if x == 0 {
-            return is_complete(kind, slots, length, n, sum, cut & (left == 0));
+            let done = is_complete(kind, slots, length, n, sum, cut & (left == 0));
+            return Pieces {
+                fine: done,
+                count: n as u8,
+            };
         }
         let row = cell(s, cells, x);
         let index = octets::wide(row[rows::cell::Cell::INDEX]);
         if index < low {
-            return false;
+            return Pieces {
+                fine: false,
+                count: 0,
+            };
         }
         if slots <= index {
-            return false;
+            return Pieces {
+                fine: false,
+                count: 0,
+            };
         }
         let size = octets::get16(row, rows::cell::Cell::SIZE);
         let next = is_next(left, size);
@@ -120,5 +139,9 @@ pub fn fit(s: &[u8], cells: usize, first: usize, kind: u64, slots: u64, length: 
         x = octets::small(row[rows::cell::Cell::NEXT]);
         n += 1;
     }
-    is_complete(kind, slots, length, n, sum, cut & (left == 0))
+    let fine = is_complete(kind, slots, length, n, sum, cut & (left == 0));
+    Pieces {
+        fine: fine,
+        count: n as u8,
+    }
 }

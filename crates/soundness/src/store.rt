@@ -76,7 +76,9 @@ pub fn sound(store: &[u8], role: u64) -> bool
     }
     let held = octets::small(store[rows::head::Head::HELD]);
     let whole = octets::small(store[rows::head::Head::WHOLE]);
-    let a = crate::records::fit(store, cells, held_kind(role), held, whole);
-    let b = crate::records::fit(store, cells, rows::record::WHOLE, whole, 0);
-    ((role == rows::head::RECEIVE) | (whole == 0)) & (a & b)
+    let mut counts = [0u8; rows::record::STEPS];
+    let a = crate::records::fit(store, cells, held_kind(role), held, whole, &mut counts);
+    let b = crate::records::fit(store, cells, rows::record::WHOLE, whole, 0, &mut counts);
+    let fair = crate::sources::fair(store, cells, role, held, whole, &counts);
+    (((role == rows::head::RECEIVE) | (whole == 0)) & (a & b)) & fair
 }

@@ -1,11 +1,12 @@
 -- The invariant: the cells on the way can be read, and what is asked of the rest of the pieces is what is asked of all. Assumes nothing.
 use Prim.Native.Nat.{suc, _-_}
 use native.Mathlib.Omega.{arith}
-use mathlib.Core.Path.{_≡_, _∙_}
+use mathlib.Core.Path.{_≡_, refl, _∙_}
 use lib.ListN.{length}
 use borrow.Author.Needs.{needs}
+use Rattle.octets.specs.BoolsLaws.{clash}
 use Rattle.machine.specs.Limits.{mostCells, cellBytes}
-use Rattle.soundness.proofs.Rests.{Turn, rest-all, cell-in, cell-long, fit-low, fit-high, fit-more, fit-end, fit-out}
+use Rattle.soundness.proofs.Rests.{Turn, rest-all, cell-in, cell-long, fit-low, fit-high, fit-more, fit-end, fit-out, count-end, count-out}
 use Rattle.soundness.proofs.pieces.fit.Statement.{statement}
 use Rattle.soundness.proofs.pieces.fit.Tie as tie
 
@@ -24,10 +25,12 @@ start c = c .before .before
 
 loop-holds : tie.Need-loop-holds Inv-loop μ-loop
 loop-holds c =
-    record { turns = omega arith; small = omega arith; byte = omega arith; reads = c .before .pre .1; gives = rest-all _ _ _ _ }
+    record { turns = omega arith; small = omega arith; byte = omega arith; reads = c .before .pre .1; gives = rest-all _ _ _ _; counts = omega arith }
 
 returns : tie.Need-returns Inv-loop μ-loop
-returns c = c .is-complete .ensures ∙ fit-end (c .before .before .before .loop .inv) (c .before .if1 .taken)
+returns c =
+    let inv = c .before .before .before .loop .inv in
+    (c .is-complete .ensures ∙ fit-end inv (c .before .if1 .taken), λ e. count-end inv (c .before .if1 .taken))
 
 cell-requires : tie.Need-cell-requires Inv-loop μ-loop
 cell-requires c κs =
@@ -48,14 +51,16 @@ returns-2 : tie.Need-returns-2 Inv-loop μ-loop
 returns-2 c =
     let row = c .before .before .before in
     let e = some row in
-    fit-low (walk e .loop .inv) (omega arith) (e .if1 .left) (start (walk e) .pre .0) (row .cell .ensures) (c .before .wide .ensures .0) (c .if2 .taken)
+    let room = start (walk e) .pre .0 in
+    (fit-low (walk e .loop .inv) (omega arith) (e .if1 .left) room (row .cell .ensures) (c .before .wide .ensures .0) (c .if2 .taken), λ q. clash q refl)
 
 returns-3 : tie.Need-returns-3 Inv-loop μ-loop
 returns-3 c =
     let index = c .before .before in
     let row = index .before .before in
     let e = some row in
-    fit-high (walk e .loop .inv) (omega arith) (e .if1 .left) (start (walk e) .pre .0) (row .cell .ensures) (index .wide .ensures .0) (c .if3 .taken)
+    let room = start (walk e) .pre .0 in
+    (fit-high (walk e .loop .inv) (omega arith) (e .if1 .left) room (row .cell .ensures) (index .wide .ensures .0) (c .if3 .taken), λ q. clash q refl)
 
 get16-requires : tie.Need-get16-requires Inv-loop μ-loop
 get16-requires c κs = omega (arith, long (c .before .before .before .before))
@@ -77,11 +82,13 @@ loop-again c =
     (cut .cut-off .ensures)
 
 returns-4 : tie.Need-returns-4 Inv-loop μ-loop
-returns-4 c = c .is-complete2 .ensures ∙ fit-out (c .before .before .loop .inv) (c .before .loop-test .left)
+returns-4 c =
+    let inv = c .before .before .loop .inv in
+    (c .is-complete2 .ensures ∙ fit-out inv (c .before .loop-test .left), λ e. count-out inv (c .before .loop-test .left))
 
 pub fit-spec : {M : Type 1} → statement M
 fit-spec =
     tie.close
-    (tie.spec Inv-loop μ-loop loop-holds (λ c κs. search needs) returns cell-requires shared-slice-read-wide (λ c κs. search needs) returns-2
+    (tie.spec Inv-loop μ-loop loop-holds (λ c κs. search needs) (λ c. omega arith) returns cell-requires shared-slice-read-wide (λ c κs. search needs) returns-2
     returns-3 get16-requires (λ c κs. search needs) (λ c κs. search needs) (λ c. omega arith) (λ c. omega arith) shared-slice-read-small
-    (λ c κs. search needs) (λ c. omega arith) (λ c. omega arith) loop-again (λ c κs. search needs) returns-4)
+    (λ c κs. search needs) (λ c. omega arith) (λ c. omega arith) loop-again (λ c κs. search needs) (λ c. omega arith) returns-4)

@@ -1,5 +1,5 @@
 -- The fields are read from the record's row. Assumes nothing.
-use Rattle.soundness.proofs.Rests.{row-is, record-reads, record-asks}
+use Rattle.soundness.proofs.Rests.{row-is, record-reads, record-asks, record-counts}
 use borrow.Author.Needs.{needs}
 use Rattle.machine.specs.Limits.{recBytes}
 use Rattle.soundness.proofs.records.has_pieces.Statement.{statement}
@@ -20,8 +20,11 @@ returns c =
     let small = c .before .before .before .before in
     let row = small .before .before .before in
     let start = row .before .before in
-    record-asks (start .args .s .now) (start .args .x) _ _ (row-is _ _ _ recBytes (row .record-at .ensures)) (small .small .ensures .0) _ _ _ _
-    (c .before .before .wide .ensures .0) (c .before .get64 .ensures) (c .fit .ensures)
+    let is = row-is _ _ _ recBytes (row .record-at .ensures) in (
+      record-asks (start .args .s .now) (start .args .x) _ _ is (small .small .ensures .0) _ _ _ _
+          (c .before .before .wide .ensures .0) (c .before .get64 .ensures) (c .fit .ensures .0),
+      λ e. record-counts (start .args .s .now) (start .args .x) _ _ is (small .small .ensures .0) (c .fit .ensures .1 e),
+    )
 
 pub has-pieces-spec : {M : Type 1} → statement M
 has-pieces-spec =

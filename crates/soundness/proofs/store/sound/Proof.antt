@@ -79,7 +79,7 @@ passed c = c .before .before .before .before
 
 fit-requires : tie.Need-fit-requires
 fit-requires c κs =
-    let small = c .before in
+    let small = c .before .before in
     let e = passed small in
     let f = counted e in
     let role = given (headed f) .args .role in (
@@ -89,24 +89,38 @@ fit-requires c κs =
 
 fit-requires-2 : tie.Need-fit-requires-2
 fit-requires-2 c κs =
-    let small = c .before .before in
+    let small = c .before .before .before .before in
     let e = passed small in
     let f = counted e in
     let role = given (headed f) .args .role in
     (chained-at role _ _ _ _ (cells f) (small .small3 .ensures .0) (whole-chained role _ (room (headed f)) (records f) (each e)), none-inside _)
 
+fair-requires : tie.Need-fair-requires
+fair-requires c κs =
+    let small = c .before .before .before .before .before .before in
+    let f = counted (passed small) in
+    let role = given (headed f) .args .role in
+    let inside = records-inside role _ (records f) in (
+      room-at role _ _ (cells f) (room (headed f)),
+      same-start _ _ _ (small .before .before .small2 .ensures .0) (inside .held),
+      same-start _ _ _ (small .small3 .ensures .0) (inside .whole),
+    )
+
 returns-4 : tie.Need-returns-4
 returns-4 c =
-    let kind = c .before .before in
+    let whole = c .before .before in
+    let held = whole .before .before in
+    let kind = held .before .before in
     let small = kind .before in
     let e = passed small in
     let f = counted e in
-    sound-is (given (headed f) .args .role) _ (room (headed f)) (records f) (each e) (head (headed f)) _ _ _ (c .before .fit .result) (c .fit2 .result)
-    (kind .held-kind .ensures) (small .before .before .small2 .ensures .0) (small .small3 .ensures .0) (c .before .fit .ensures) (c .fit2 .ensures)
+    sound-is (given (headed f) .args .role) _ (room (headed f)) (records f) (each e) (head (headed f)) _ _ _ (held .fit .result) (whole .fit2 .result)
+    (c .fair .result) _ _ (kind .held-kind .ensures) (small .before .before .small2 .ensures .0) (small .small3 .ensures .0)
+    (held .fit .ensures) (whole .fit2 .ensures) (c .fair .ensures)
 
 pub sound-spec : {M : Type 1} → statement M
 sound-spec =
     tie.close
     (tie.spec (λ c κs. search needs) returns shared-slice-read-small (λ c κs. search needs) records-once-requires returns-2
     cells-once-requires returns-3 shared-slice-read-small-2 (λ c κs. search needs) shared-slice-read-small-3
-    (λ c κs. search needs) (λ c κs. search needs) fit-requires fit-requires-2 returns-4)
+    (λ c κs. search needs) (λ c κs. search needs) fit-requires fit-requires-2 fair-requires returns-4)

@@ -68,6 +68,8 @@ pub const BAD_CALENDAR: u64 = 26;
 
 pub const SHORT_FRAME: u64 = 27;
 
+pub const SOURCE_FULL: u64 = 28;
+
 // A refusal: nothing is sent, nobody wakes.
 pub fn refuse(number: u64) -> Answer
     ensures { λ r. ⌜ r ≡ bare number ⌝ }

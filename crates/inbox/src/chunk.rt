@@ -1,8 +1,10 @@
 // Chunk: a piece of a message comes.
 
+use crate::share;
 use records::field;
 use records::find;
 use rows::message;
+use rows::record;
 ghost use mathlib.Core.Path.{_≡_};
 ghost use Prim.Native.Nat.{_+_, _≤_};
 ghost use lib.ListN.{length};
@@ -13,7 +15,7 @@ ghost use Rattle.machine.specs.Codes.{roleReceive};
 ghost use Rattle.machine.specs.Layout.{decode};
 ghost use Rattle.machine.specs.Receive.{found, chunkStep};
 ghost use Rattle.machine.specs.Refusals.{refusal, asksOf};
-ghost use Rattle.machine.specs.Packet.{chunkRow, tooShort, cellsNeeded, pieceRow};
+ghost use Rattle.machine.specs.Packet.{chunkRow, tooShort, pieceRow, cellRow};
 ghost use Rattle.records.specs.HeldAt.{metAt, placeAt, recIn, HeldAt, Searched, Receives};
 ghost use Rattle.records.specs.Step.{stepped};
 ghost use Rattle.pieces.specs.InPlace.{Spot};
@@ -36,17 +38,23 @@ fn too_short(total: u64, index: u64, offset: u64, size: u64) -> bool
     (size < message::LEAST) & (index != message::top(total)) & (offset + size != total)
 }
 
-// Row 12: whether there is a cell for the piece, its own or a free one.
-fn has_cell(recv: &[u8], link: usize, spot: usize, index: u64) -> bool
+// Rows 28 and 12: a piece at a new index needs a cell, of its source's share and of those that are free.
+fn cell_refusal(recv: &[u8], link: usize, spot: usize, index: u64) -> u64
     requires { ⌜ HeldAt roleReceive (now recv) link × Spot (now recv) (placeAt (now recv) link) index spot ⌝ }
     ensures { λ r.
         let b = now (recv .entry) in
-        ⌜ r ≡ leb (cellsNeeded index (recIn b link)) (length (decode b .freeCells)) ⌝ }
+        ⌜ r ≡ refusal (cellRow index (decode b) (recIn b link)) ⌝ }
 {
     if pieces::held::has_piece(recv, link, spot, index) {
-        return true;
+        return answer::DONE;
     }
-    find::is_free_cell(recv)
+    if share::of_source(recv, field::source(recv, link)) >= record::MOST_OF_SOURCE {
+        return answer::SOURCE_FULL;
+    }
+    if !find::is_free_cell(recv) {
+        return answer::NO_CELL;
+    }
+    answer::DONE
 }
 
 // Rows 8 to 11: the refusal of a chunk of the record that was searched for.
@@ -87,8 +95,9 @@ pub fn chunk(recv: &mut [u8], id: &[u8], index: u64, offset: u64, piece: &[u8]) 
         return number;
     }
     let spot = pieces::held::piece_link(recv, link, index);
-    if !has_cell(recv, link, spot, index) {
-        return answer::NO_CELL;
+    let room = cell_refusal(recv, link, spot, index);
+    if room != answer::DONE {
+        return room;
     }
     pieces::insert::put_piece(recv, link, spot, index, piece);
     answer::DONE

@@ -6,4 +6,5 @@ pub mod aborted;
 pub mod chunk;
 pub mod done;
 pub mod init;
+pub mod share;
 pub mod take;

@@ -12,7 +12,7 @@ use Rattle.octets.specs.BoolsLaws.{cases}
 use Rattle.octets.specs.Lists.{All}
 use Rattle.octets.specs.ListsLaws.{all-right}
 use Rattle.octets.specs.PartsLaws.{getD-part}
-use Rattle.machine.specs.Limits.{recBytes, cellBytes, topOf}
+use Rattle.machine.specs.Limits.{recBytes, cellBytes, mostOfSource, topOf}
 use Rattle.machine.specs.Codes.{roleReceive}
 use Rattle.machine.specs.Values.{Cell, Rec, Store, Key, sameKey}
 use Rattle.machine.specs.Chains.{first, chainRows}
@@ -21,7 +21,7 @@ use Rattle.machine.specs.Valid.{AtMost, Valid}
 use Rattle.machine.specs.Find.{isSome}
 use Rattle.machine.specs.Pieces.{newCell, pieceAt, rest}
 use Rattle.machine.specs.Receive.{recKey, found, replaced, withPiece, chunkAt, chunkStep}
-use Rattle.machine.specs.Packet.{cellsNeeded}
+use Rattle.machine.specs.Packet.{cellsNeeded, hasShare}
 use Rattle.machine.specs.Counting.{occurs}
 use Rattle.packet.specs.Frame.{largestPiece}
 use Rattle.machine_laws.specs.Counting.{self, one-inside}
@@ -177,9 +177,10 @@ module _ (key : Key) (i : ℕ) (bytes : List ℕ) (r : Rec) (s : Store) (b : Lis
       (subst (λ (k : ℕ). Rep (chunkAt (some r) i bytes s) (rewritten b k bytes)) (sym (held-cell y)) (held-rep y)))
       (λ y. subst (λ t. Rep (chunkAt (some r) i bytes s) (cond t old new)) (sym (q ∙ y)) (new-rep y (rw y at n)))
 
-  pub chunk-is : i ≤ topOf (r .label .total) → cellsNeeded i r ≤ length FC → chunked b (r .place) i bytes ≡ encode (chunkStep key i bytes s)
-  chunk-is top n =
-      rep-encode roleReceive (chunkAt (some r) i bytes s) (chunk-valid key i bytes r s e top n z v) (chunked b (r .place) i bytes) (chunk-rep n)
+  pub chunk-is : i ≤ topOf (r .label .total) → hasShare mostOfSource i s r ≡ true → cellsNeeded i r ≤ length FC
+      → chunked b (r .place) i bytes ≡ encode (chunkStep key i bytes s)
+  chunk-is top w n =
+      rep-encode roleReceive (chunkAt (some r) i bytes s) (chunk-valid key i bytes r s e top w n z v) (chunked b (r .place) i bytes) (chunk-rep n)
       ∙ ap (λ (o : Option Rec). encode (chunkAt o i bytes s)) (sym e)
 
   -- a new index finds a free cell
@@ -202,15 +203,16 @@ module _ (key : Key) (i : ℕ) (bytes : List ℕ) (r : Rec) (s : Store) (b : Lis
 
 -- ---- of the held record that a link leads to
 
--- an index to top that is held or finds a free cell: rows 8 to 12 are past
+-- an index to top that is held, or finds a free cell and a share of its source left: rows 8 to 11, 28 and 12 are past
 module _ (b : List ℕ) (at i : ℕ) (bytes : List ℕ) (y : Bytes b) (h : HeldAt roleReceive b at) (z : AtMost largestPiece bytes)
-    (top : i ≤ topOf (recIn b at .label .total)) (room : cellsNeeded i (recIn b at) ≤ length (decode b .freeCells)) where
+    (top : i ≤ topOf (recIn b at .label .total)) (share : hasShare mostOfSource i (decode b) (recIn b at) ≡ true)
+    (room : cellsNeeded i (recIn b at) ≤ length (decode b .freeCells)) where
   -- what the step makes of the store
   pub put-is : chunked b (placeAt b at) i bytes ≡ encode (chunkStep (keyIn b at) i bytes (decode b))
   unfolding recOf
   put-is =
       chunk-is (keyIn b at) i bytes (recIn b at) (decode b) b (valid roleReceive b y (h .sound))
-      (rep roleReceive b y (h .sound)) (held-here roleReceive b y at h) z top room
+      (rep roleReceive b y (h .sound)) (held-here roleReceive b y at h) z top share room
 
   -- what the code asks
   pub put-asks : Links b × PieceFits (placeAt b at) i (length bytes) × (holdsIndex b (spotIn b (placeAt b at) i) i ≡ false → 0 < getD b freeCellsAt 0)

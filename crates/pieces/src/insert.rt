@@ -10,14 +10,14 @@ use rows::head::Head;
 use rows::record::Record;
 use rows::record::record_at;
 ghost use mathlib.Core.Path.{_≡_};
-ghost use mathlib.Core.Bool.{false};
+ghost use mathlib.Core.Bool.{true, false};
 ghost use Prim.Native.Nat.{_+_, _≤_, _<_, max};
 ghost use lib.ListN.{length, getD};
-ghost use Rattle.machine.specs.Limits.{recCount, recBytes, topOf};
+ghost use Rattle.machine.specs.Limits.{recCount, recBytes, mostOfSource, topOf};
 ghost use Rattle.machine.specs.Codes.{roleReceive};
 ghost use Rattle.machine.specs.Layout.{freeCellsAt, recOff, encode, decode};
 ghost use Rattle.machine.specs.Receive.{chunkStep};
-ghost use Rattle.machine.specs.Packet.{cellsNeeded};
+ghost use Rattle.machine.specs.Packet.{cellsNeeded, hasShare};
 ghost use Rattle.packet.specs.Frame.{largestPiece};
 ghost use Rattle.machine_writes.specs.Links.{Links};
 ghost use Rattle.records.specs.HeldAt.{placeAt, recIn, keyIn, HeldAt};
@@ -94,7 +94,8 @@ pub fn put_piece(store: &mut [u8], link: usize, spot: usize, index: u64, bytes: 
     requires { let b = now store in
         let r = recIn b link in
         ⌜ HeldAt roleReceive b link × Spot b (placeAt b link) index spot × (index ≤ topOf (r .label .total))
-        × (cellsNeeded index r ≤ length (decode b .freeCells)) × (length (now bytes) ≤ largestPiece) ⌝ }
+        × (cellsNeeded index r ≤ length (decode b .freeCells)) × (length (now bytes) ≤ largestPiece)
+        × (hasShare mostOfSource index (decode b) r ≡ true) ⌝ }
     ensures { λ _.
         let b = now (store .entry) in
         ⌜ now (store .exit) ≡ encode (chunkStep (keyIn b link) index (now (bytes .entry)) (decode b)) ⌝ }

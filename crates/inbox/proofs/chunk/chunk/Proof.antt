@@ -5,7 +5,7 @@ use mathlib.Core.Path.{_≡_, refl, sym, _∙_}
 use mathlib.Core.List.{_++_}
 use mathlib.Core.Option.{Option, none, some}
 use lib.ListN.{length}
-use borrow.Author.Tests.{leb-true, not-true, not-false}
+use borrow.Author.Tests.{leb-true}
 use Rattle.machine.specs.Codes.{roleReceive}
 use Rattle.machine.specs.Values.{Rec}
 use Rattle.machine.specs.Layout.{decode}
@@ -13,7 +13,7 @@ use Rattle.machine.specs.Receive.{found}
 use Rattle.machine.specs.Refusals.{Refusals, refusal, asksOf}
 use Rattle.machine_steps.specs.Refusals.{refusal-clear}
 use Rattle.records.specs.HeldAt.{metAt, recIn, HeldAt}
-use Rattle.records.specs.RefuseLaws.{next, stop, clear, front-stop, front-next, refused, done}
+use Rattle.records.specs.RefuseLaws.{front-stop, front-next, refused, done}
 use Rattle.records.specs.SearchLaws.{Search, ended, asks-met, number-is, passed, held-here, held-key}
 use Rattle.machine.specs.Packet.{pieceRow, cellRow, chunkRow}
 use borrow.Author.Needs.{needs}
@@ -62,8 +62,8 @@ front-clear : (c : tie.Else1) → refusal (front (begun c) (there c)) ≡ 0
 front-clear c = passed (searched (found-at c)) _ (c .before .refusal .ensures) (c .if1 .left)
 
 -- .. and the second part gives the number
-from12 : (c : tie.Else1) {n : ℕ} → refusal (rest (begun c) (there c)) ≡ n → n ≡ row (begun c)
-from12 c e =
+from28 : (c : tie.Else1) {n : ℕ} → refusal (rest (begun c) (there c)) ≡ n → n ≡ row (begun c)
+from28 c e =
     let h = searched (found-at c) in
     number-is h _ (sym (asks-met (ended h) _ (λ e. omega (arith, held c .some)) ∙ front-next (front (begun c) (there c)) _ refl (front-clear c) ∙ e))
 
@@ -77,19 +77,20 @@ returns c =
 returns-2 : tie.Need-returns-2
 returns-2 c =
     let cell = c .before in
-    let none = sym (cell .has-cell .ensures) ∙ not-true _ (c .if2 .taken) in
-    refused 12 _ _ _ (from12 (cell .before .before .before .before) (stop _ _ _ none)) (λ e. omega arith)
+    refused _ _ _ _ (from28 (cell .before .before .before .before) (sym (cell .cell-refusal .ensures))) (c .if2 .taken)
 
 put-piece-requires : tie.Need-put-piece-requires
 put-piece-requires c κs =
     let cell = c .before .before in
     let link = cell .before .before in
-    let accepted = link .before .before in (
+    let accepted = link .before .before in
+    let room = refusal-clear (rest (begun accepted) (there accepted)) refl (sym (cell .cell-refusal .ensures) ∙ c .before .if2 .left) in (
       held accepted,
       link .piece-link .ensures,
       leb-true _ _ (refusal-clear _ refl (front-clear accepted) .1 .0),
-      leb-true _ _ (sym (cell .has-cell .ensures) ∙ not-false _ (c .before .if2 .left)),
+      leb-true _ _ (room .1 .0),
       begun accepted .pre .1,
+      room .0,
     )
 
 returns-3 : tie.Need-returns-3
@@ -99,7 +100,7 @@ returns-3 c =
     let cell = room .before in
     let accepted = cell .before .before .before .before in
     let own = held-key (searched (found-at accepted)) _ (accepted .before .refusal .ensures) (accepted .if1 .left) in
-    done _ _ _ _ (from12 accepted (next _ _ _ (sym (cell .has-cell .ensures) ∙ not-false _ (room .if2 .left)) ∙ clear)) (rw own at (put .put-piece .ensures))
+    done _ _ _ _ (from28 accepted (sym (cell .cell-refusal .ensures) ∙ room .if2 .left)) (rw own at (put .put-piece .ensures))
 
 pub chunk-spec : {M : Type 1} → statement M
 chunk-spec =

@@ -25,7 +25,7 @@ put-in-requires c κs =
     let b = a .store .now in
     let p = start .pre in
     let asks = put-asks b _ (a .index) (a .bytes .now) (λ j. shared .before .slice-known .given j .fits)
-    (p .0) (p .4, λ j. shared .shared-slice-known .given j .fits) (p .2) (p .3) in
+    (p .0) (p .4, λ j. shared .shared-slice-known .given j .fits) (p .2) (p .5) (p .3) in
     subst (λ (k : ℕ). Links b × Spot b k (a .index) (a .spot) × PieceFits k (a .index) (length (a .bytes .now))
     × (holdsIndex b (a .spot) (a .index) ≡ false → 0 < getD b freeCellsAt 0)) (sym (c .before .small .ensures .0))
     (asks .0, p .1, asks .1, λ e. asks .2 (ap (λ (o : ℕ). holdsIndex b o (a .index)) (sym (p .1 .is)) ∙ e))
@@ -40,7 +40,7 @@ returns c =
     let p = start .pre in
     put .put-in .ensures ∙ ap (λ (k : ℕ). chunked (a .store .now) k (a .index) (a .bytes .now)) (small .small .ensures .0)
     ∙ put-is _ _ (a .index) (a .bytes .now) (λ j. shared .before .slice-known .given j .fits) (p .0)
-    (p .4, λ j. shared .shared-slice-known .given j .fits) (p .2) (p .3)
+    (p .4, λ j. shared .shared-slice-known .given j .fits) (p .2) (p .5) (p .3)
 
 pub put-piece-spec : {M : Type 1} → statement M
 put-piece-spec = tie.close (tie.spec slice-read-small (λ c κs. search needs) put-in-requires (λ c. search needs) returns)

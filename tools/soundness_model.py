@@ -1,5 +1,6 @@
 """The sound stores of docs/PROTOCOL.md, as an independent model in Python: sound(bytes, role) and fresh(role, cells)."""
 HEAD, NREC, REC, CELL = (16, 8, 328, 1380)
+MOST_OF_SOURCE = 30
 
 
 def num(b):
@@ -65,6 +66,7 @@ def sound(b, role):
         return False
     seen = list(fc)
     ids = []
+    of_source = {}
     for p in free:
         if any(b[rec(p) + 1:rec(p) + REC]):
             return False
@@ -95,6 +97,8 @@ def sound(b, role):
             if cs is None:
                 return False
             seen += cs
+            source = bytes(r[16:32])
+            of_source[source] = of_source.get(source, 0) + len(cs)
             last = -1
             tot = 0
             sizes = []
@@ -117,6 +121,8 @@ def sound(b, role):
                 return False
             if kind == 3 and sizes != [1300] * (L // 1300) + ([L % 1300] if L % 1300 else []):
                 return False
+    if role == 1 and any(n > MOST_OF_SOURCE for n in of_source.values()):
+        return False
     return sorted(seen) == list(range(1, C + 1)) and len(set(ids)) == len(ids)
 
 

@@ -121,4 +121,54 @@ line('free cell 2 leads to 1', w(s, C2, 1, 1))
 s = received()
 for t, a, v in [('a held record leads to itself', R1, 1), ('a whole record leads to itself', R2, 2), ('a held record leads to a whole one', R1, 2), ('a free record leads to a held one', 2312, 1), ('a piece leads to itself', C1, 1), ("a piece leads to another record's", C1, 2), ('two ids are one', R1 + 15, 2), ('a whole record is one slot larger', R2 + 7, 2), ('an arriving record is one slot larger', R1 + 7, 3), ('one byte of a free record is 1', 1000, 1), ('one byte past a piece is 1', C1 + 316, 1), ('one byte of a piece is 1', C1 + 315, 1)]:
     line(t, w(s, a, v, 1))
+
+
+def store(role, C, records):
+    """A store of records (kind, source, length, slots, sizes of the pieces), in the order of their places."""
+    b = fresh(role, C)
+    heads = {1: 1, 3: 1, 2: 2}
+    used = 1
+    last = {}
+    for p, (kind, source, length, slots, sizes) in enumerate(records, 1):
+        o = 16 + 328 * (p - 1)
+        b[o:o + 328] = bytes(328)
+        b[o + 1] = kind
+        b[o + 7] = slots
+        b[o + 15] = p
+        b[o + 31] = source
+        b[o + 48:o + 56] = length.to_bytes(8, 'big')
+        b[last.get(kind, heads[kind])] = p
+        last[kind] = o
+        link = o + 5
+        for index, n in enumerate(sizes):
+            a = size(0) + 1380 * (used - 1)
+            b[a:a + 4] = bytes([0, index]) + n.to_bytes(2, 'big')
+            b[link] = used
+            link = a
+            used += 1
+    b[0] = len(records) + 1
+    b[3] = used if used <= C else 0
+    return b
+
+
+def arriving(source, n):
+    return 1, source, 32500, 130, [0] * n
+
+
+def splits(n, source):
+    return sum(sound(store(1, 45, [arriving(1, k), arriving(source, n - k)]), 1) for k in range(n + 1))
+
+
+def with_whole(n, source):
+    return sound(store(1, 45, [arriving(1, n), arriving(1, 0), (2, source, 0, 1, [0])]), 1)
+
+
+line('30 pieces of two records of a source', splits(30, 1))
+line('31 pieces of two records of a source', splits(31, 1))
+line('31 pieces of two sources', splits(31, 2))
+line('45 pieces of two sources', splits(45, 2))
+line("29 pieces, and a whole record's of the source", with_whole(29, 1))
+line("30 pieces, and a whole record's of the source", with_whole(30, 1))
+line("30 pieces, and a whole record's of another", with_whole(30, 2))
+line('45 pieces of a source that leave', sound(store(2, 45, [(3, 1, 32500, 25, [1300] * 25), (3, 1, 26000, 20, [1300] * 20)]), 2))
 sys.stdout.write('\n'.join(out) + '\n')

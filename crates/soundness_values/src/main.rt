@@ -217,6 +217,147 @@ fn chains() {
     );
 }
 
+// Where the cells of a store of 45 cells start, behind its records.
+const CELLS: usize = 2640;
+
+// The cells from `first` to before `end`, of a fresh store, become the pieces of a record: so many bytes each, all 0.
+fn chained(s: &mut [u8; 64740], first: usize, end: usize, size: u64)
+    requires { ⌜ (1 ≤ first) × (first ≤ end) × (end ≤ 46) × (size < 65536) ⌝ }
+{
+    let mut c: usize = first;
+    while c < end {
+        let o = CELLS + 1380 * (c - 1);
+        s[o + 1] = (c - first) as u8;
+        s[o + 2] = (size / 256) as u8;
+        s[o + 3] = (size % 256) as u8;
+        c += 1;
+    }
+    if first < end {
+        s[CELLS + 1380 * (end - 2)] = 0;
+    }
+}
+
+// The place of the first of the cells from `first` to before `end`, 0 for none.
+fn first_of(first: usize, end: usize) -> u8
+    requires { ⌜ first ≤ 255 ⌝ }
+{
+    if first < end { first as u8 } else { 0 }
+}
+
+// A record of a kind and a source at a place, with the cells from `first` to before `end` and a length.
+fn placed(
+    s: &mut [u8; 64740],
+    place: usize,
+    kind: u8,
+    source: u8,
+    first: usize,
+    end: usize,
+    length: u64,
+)
+    requires { ⌜ (1 ≤ place) × (place ≤ 8) × (first ≤ 255) × (length < 65536) ⌝ }
+{
+    let o = 16 + 328 * (place - 1);
+    s[o + 1] = kind;
+    s[o + 5] = first_of(first, end);
+    s[o + 15] = place as u8;
+    s[o + 31] = source;
+    s[o + 54] = (length / 256) as u8;
+    s[o + 55] = (length % 256) as u8;
+}
+
+// A store to receive: two arriving records of 32,500 bytes with n pieces of no bytes, k of them the first record's, of
+// source 1; the second record is of the source.
+fn shared(s: &mut [u8; 64740], k: usize, n: usize, source: u8)
+    requires { ⌜ (k ≤ n) × (n ≤ 45) ⌝ }
+{
+    soundness::setup(s, 1);
+    s[0] = 3;
+    s[1] = 1;
+    s[3] = first_of(n + 1, 46);
+    placed(s, 1, 1, 1, 1, k + 1, 32500);
+    placed(s, 2, 1, source, k + 1, n + 1, 32500);
+    s[R1] = 2;
+    s[R2] = 0;
+    s[R1 + 7] = 130;
+    s[R2 + 7] = 130;
+    chained(s, 1, k + 1, 0);
+    chained(s, k + 1, n + 1, 0);
+}
+
+// How many of the ways to share n pieces between two records, the second of the source, are sound.
+fn splits(s: &mut [u8; 64740], n: usize, source: u8) -> u64
+    requires { ⌜ n ≤ 45 ⌝ }
+{
+    let mut found: u64 = 0;
+    let mut k: usize = 0;
+    while k <= n {
+        shared(s, k, n, source);
+        found += one(soundness::sound(s, 1));
+        k += 1;
+    }
+    found
+}
+
+// The first record's n pieces, and a whole record of no bytes and one piece, of the source.
+fn with_whole(s: &mut [u8; 64740], n: usize, source: u8) -> u64
+    requires { ⌜ n ≤ 43 ⌝ }
+{
+    shared(s, n, n, 1);
+    s[0] = 4;
+    s[2] = 3;
+    s[3] = (n + 2) as u8;
+    placed(s, 3, 2, source, n + 1, n + 2, 0);
+    s[672] = 0;
+    s[679] = 1;
+    chained(s, n + 1, n + 2, 0);
+    one(soundness::sound(s, 1))
+}
+
+// A store to send: two leaving records of one source with 25 and 20 pieces.
+fn leaving(s: &mut [u8; 64740]) -> u64 {
+    soundness::setup(s, 2);
+    s[0] = 3;
+    s[1] = 1;
+    s[3] = 0;
+    placed(s, 1, 3, 1, 1, 26, 32500);
+    placed(s, 2, 3, 1, 26, 46, 26000);
+    s[R1] = 2;
+    s[R2] = 0;
+    s[R1 + 7] = 25;
+    s[R2 + 7] = 20;
+    chained(s, 1, 26, 1300);
+    chained(s, 26, 46, 1300);
+    one(soundness::sound(s, 2))
+}
+
+// The cells of one source, and of two.
+fn sources() {
+    let mut s = [0u8; 64740];
+    line(
+        b"30 pieces of two records of a source",
+        splits(&mut s, 30, 1),
+    );
+    line(
+        b"31 pieces of two records of a source",
+        splits(&mut s, 31, 1),
+    );
+    line(b"31 pieces of two sources", splits(&mut s, 31, 2));
+    line(b"45 pieces of two sources", splits(&mut s, 45, 2));
+    line(
+        b"29 pieces, and a whole record's of the source",
+        with_whole(&mut s, 29, 1),
+    );
+    line(
+        b"30 pieces, and a whole record's of the source",
+        with_whole(&mut s, 30, 1),
+    );
+    line(
+        b"30 pieces, and a whole record's of another",
+        with_whole(&mut s, 30, 2),
+    );
+    line(b"45 pieces of a source that leave", leaving(&mut s));
+}
+
 // A store with records, and the bytes near it.
 fn near(s: &mut [u8; 5400], role: u64, other: u64) {
     line(b"  sound", one(soundness::sound(s, role)));
@@ -267,4 +408,5 @@ fn main() {
     sent(&mut s);
     near(&mut s, 2, 1);
     chains();
+    sources();
 }

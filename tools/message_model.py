@@ -141,16 +141,31 @@ def fresh(role, cells):
     return {"role": role, "cells": cells, "held": {}, "whole": []}
 
 
+MOST_OF_SOURCE = 30
+
+
+def records(store):
+    return list(store["held"].values()) + store["whole"]
+
+
+def cells_from(store, source):
+    """The cells that arriving and whole records of a source hold."""
+    return sum(len(r["pieces"]) for r in records(store) if r["source"] == source)
+
+
 def sound(store, role):
-    return store.get("role") == role
+    """Whether the store is one, in its role; and, where it is to receive, no source holds too many cells."""
+    if store.get("role") != role:
+        return False
+    return role == 2 or all(cells_from(store, r["source"]) <= MOST_OF_SOURCE for r in records(store))
 
 
 def free_records(store):
-    return 8 - len(store["held"]) - len(store["whole"])
+    return 8 - len(records(store))
 
 
 def free_cells(store):
-    return store["cells"] - sum(len(r["pieces"]) for r in list(store["held"].values()) + store["whole"])
+    return store["cells"] - sum(len(r["pieces"]) for r in records(store))
 
 
 def setup(size, role):
@@ -238,6 +253,8 @@ def chunk(recv, frame):
         return 10
     if size < 250 and index != top_of(record["length"]) and offset + size != record["length"]:
         return 11
+    if index not in record["pieces"] and cells_from(recv, record["source"]) >= MOST_OF_SOURCE:
+        return 28
     if index not in record["pieces"] and not free_cells(recv):
         return 12
     record["pieces"][index] = frame[36:36 + size]
@@ -503,9 +520,9 @@ def transfer():
     deadline_at(nodes, key, 605999)
 
 
-# ---- crates/message_values: stores of 25 cells
+# ---- crates/message_values: stores of 25 cells, and of 45 where cells are counted by source
 
-NEAR, FAR = b"\x11" * 16, b"\x22" * 16
+NEAR, FAR, THIRD = b"\x11" * 16, b"\x22" * 16, b"\x33" * 16
 OPEN = b"\0"
 
 
@@ -524,8 +541,8 @@ def done_frame(n, data):
 class Bench:
     """Two stores, and a line for each call on them."""
 
-    def __init__(self, held=False):
-        self.recv, self.send = fresh(1, 25), fresh(2, 25)
+    def __init__(self, held=False, cells=25):
+        self.recv, self.send = fresh(1, cells), fresh(2, cells)
         if held:
             self.quiet(frame(1, INIT, 300))
             self.pushed(1)
@@ -537,11 +554,11 @@ class Bench:
         print(what + said(*answer) + ", store " + ("kept" if before == (self.recv, self.send) else "changed"))
         return answer[0]
 
-    def arrives(self, f, rules=OPEN, known=1, room=86):
-        return packet(self.recv, self.send, f, NEAR, FAR, rules, known, room)
+    def arrives(self, f, rules=OPEN, known=1, room=86, sender=NEAR):
+        return packet(self.recv, self.send, f, sender, FAR, rules, known, room)
 
-    def quiet(self, f):
-        self.arrives(f)
+    def quiet(self, f, sender=NEAR):
+        self.arrives(f, sender=sender)
 
     def pushed(self, n):
         push(self.send, keyed(n), 0, FAR, NEAR, b"t", b"\x07" * 300, 0, 0)
@@ -828,6 +845,73 @@ def chunks():
     b.packet("chunk at a new index", frame(1, CHUNK, 25, 0, 250))
 
 
+def full_source(n=30):
+    """A message of 32,500 bytes from NEAR with n pieces, and one without."""
+    b = Bench(cells=45)
+    for key, pieces in ((1, n), (2, 0)):
+        b.quiet(frame(key, INIT, 32500))
+        for i in range(pieces):
+            b.quiet(frame(key, CHUNK, i, 0, 250))
+    return b
+
+
+def sources():
+    """At the limit of a source and below it; the row's place; two sources; whole records; cells given back; the store unsound."""
+    def chunk_of(b, what, key, index, offset=0, size=250, **others):
+        b.packet(what, frame(key, CHUNK, index, offset, size), **others)
+
+    b = full_source(29)
+    chunk_of(b, "chunk, 29 cells of its source", 1, 29)
+    chunk_of(b, "chunk, 30 cells of its source", 1, 30)
+    chunk_of(b, "  of another id", 2, 0)
+    chunk_of(b, "  of no bytes", 1, 129, 32500, 0)
+    chunk_of(b, "  at a held index", 1, 29, 0, 251)
+    b = full_source(29)
+    chunk_of(b, "chunk of no bytes, 29 cells of its source", 1, 129, 32500, 0)
+    chunk_of(b, "chunk, one of 30 cells without bytes", 1, 30)
+    for what, key, index, offset, size in (("of an unknown id", 3, 30, 0, 250), ("past the end", 1, 30, 32500, 250), ("at a high index", 1, 130, 0, 250),
+                                           ("of 249 bytes", 1, 30, 0, 249)):
+        chunk_of(b, f"  {what}", key, index, offset, size)
+    b = full_source()
+    chunk_of(b, "chunk from another sender, 30 cells of its source", 1, 30, sender=THIRD)
+    b.packet("init from another source", frame(3, INIT, 32500), sender=THIRD)
+    chunk_of(b, "  its chunk from a sender with 30 cells", 3, 0)
+    for i in range(1, 14):
+        b.quiet(frame(3, CHUNK, i, 0, 250))
+    chunk_of(b, "  the last free cell", 3, 14)
+    chunk_of(b, "  no cell free", 3, 15)
+    chunk_of(b, "  no cell free, 30 cells of its source", 1, 30)
+    chunk_of(b, "  the same at a held index", 1, 0, 0, 251)
+    b = full_source(28)
+    for key in (3, 4):
+        b.quiet(frame(key, INIT, 1))
+        b.quiet(frame(key, CHUNK, 0, 0, 1))
+        b.quiet(done_frame(key, b"\0"))
+    chunk_of(b, "chunk, 30 cells of its source, 2 of them whole", 1, 28)
+    b.take("  take")
+    chunk_of(b, "  29 cells, 1 of them whole", 1, 28)
+    chunk_of(b, "  30 cells, 1 of them whole", 1, 29)
+    b = full_source()
+    chunk_of(b, "chunk, before an aborted", 2, 0)
+    b.packet("  aborted", frame(1, ABORTED))
+    chunk_of(b, "  chunk", 2, 0)
+    b = full_source()
+    b.packet("init again, 30 cells of its source", frame(1, INIT, 32500))
+    chunk_of(b, "  chunk", 2, 0)
+    b.packet("  init of 32499", frame(1, INIT, 32499))
+    chunk_of(b, "  chunk", 2, 0)
+    b = full_source()
+    b.quiet(frame(2, INIT, 32500), sender=THIRD)
+    b.quiet(frame(2, CHUNK, 0, 0, 250))
+    b.recv["held"][keyed(2)]["source"] = NEAR
+    b.packet("packet, 31 cells of a source", frame(1, INIT, 32500))
+    b.take("  take")
+    b = Bench(cells=45)
+    b.push("push of 25 cells", 1, b"t", b"\x07" * 32500)
+    b.push("push of 20 more", 2, b"t", b"\x07" * 26000)
+    b.push("push of one more", 3, b"t", b"x")
+
+
 def dones():
     b = Bench()
     b.packet("done of an unknown id", frame(1, DONE, 2))
@@ -869,7 +953,7 @@ def message_values():
     flags("flags, arriving, and leaving in state 1:", True)
     for length in (11, 12, 20, 21, 35, 36, 51, 52):
         flags(f"  frames of {length}:", True, length)
-    for group in (rooms, stores, sends, eight, sending_hours, inits, repeats, chunks, dones, acks):
+    for group in (rooms, stores, sends, eight, sending_hours, inits, repeats, chunks, sources, dones, acks):
         group()
 
 

@@ -1,4 +1,4 @@
-// The calls, each with a line for what came of it. Stores have 25 cells.
+// The calls, each with a line for what came of it. Stores have 25 cells, or 45 where cells are counted by source.
 
 use crate::show;
 use answer::Answer;
@@ -7,14 +7,28 @@ use calendar::ALWAYS;
 // The packet call, from 0x11.. to 0x22..
 pub(crate) fn packet(
     what: &[u8],
-    recv: &mut [u8; 37140],
-    send: &mut [u8; 37140],
+    recv: &mut [u8],
+    send: &mut [u8],
     frame: &[u8],
     rules: &[u8],
     known: u64,
     run: &mut [u8],
 ) {
-    let from = [0x11u8; 16];
+    packet_from(what, recv, send, 0x11, frame, rules, known, run);
+}
+
+// The same from any sender, by the byte that its address has sixteen times.
+fn packet_from(
+    what: &[u8],
+    recv: &mut [u8],
+    send: &mut [u8],
+    sender: u8,
+    frame: &[u8],
+    rules: &[u8],
+    known: u64,
+    run: &mut [u8],
+) {
+    let from = [sender; 16];
     let to = [0x22u8; 16];
     let old_recv = show::copy(recv);
     let old_send = show::copy(send);
@@ -46,6 +60,18 @@ pub(crate) fn frame(
     init(what, recv, send, frame, b"\0");
 }
 
+// The same from any sender, in stores of 45 cells.
+pub(crate) fn frame_from(
+    what: &[u8],
+    recv: &mut [u8; 64740],
+    send: &mut [u8; 64740],
+    sender: u8,
+    frame: &[u8; 1400],
+) {
+    let mut run = [0xeeu8; 100];
+    packet_from(what, recv, send, sender, frame, b"\0", 1, &mut run);
+}
+
 // The same where the source's key is not known.
 pub(crate) fn unknown(
     what: &[u8],
@@ -60,7 +86,7 @@ pub(crate) fn unknown(
 // The push call, from 0x22.. to 0x11.., of an id that ends in `key`.
 pub(crate) fn push(
     what: &[u8],
-    send: &mut [u8; 37140],
+    send: &mut [u8],
     key: u8,
     topic: &[u8],
     bytes: &[u8],
@@ -135,13 +161,7 @@ fn taken_bytes(a: Answer, length: u64) -> u64 {
 }
 
 // The take call, where the oldest whole message has that length.
-pub(crate) fn take(
-    what: &[u8],
-    recv: &mut [u8; 37140],
-    length: u64,
-    taken: &mut [u8],
-    run: &mut [u8],
-) {
+pub(crate) fn take(what: &[u8], recv: &mut [u8], length: u64, taken: &mut [u8], run: &mut [u8]) {
     let old_recv = show::copy(recv);
     let old_taken = show::copy(taken);
     let old_run = show::copy(run);

@@ -5,7 +5,7 @@ use crate::show;
 ghost use Prim.Native.Nat.{_<_};
 
 // Where a refusal that changed something is counted: above every number that there is.
-const BROKEN: u64 = 28;
+const BROKEN: u64 = 29;
 
 // The answer to a frame of n bytes with these flags and zeros for fields.
 fn answered(recv: &mut [u8; 37140], send: &mut [u8; 37140], flags: u8, n: usize) -> u64 {
@@ -42,12 +42,12 @@ fn answer_to(flags: u8, held: bool, n: usize) -> u64 {
 
 // Where a number is counted.
 fn place(number: u64) -> usize
-    ensures { λ r. ⌜ r < 29 ⌝ }
+    ensures { λ r. ⌜ r < 30 ⌝ }
 {
     if number < BROKEN {
         return number as usize;
     }
-    28
+    29
 }
 
 // A number that was answered, and how often.
@@ -60,9 +60,9 @@ fn line(number: usize, times: u64) {
 }
 
 // The numbers with how often each was answered.
-fn lines(counts: &[u64; 29]) {
+fn lines(counts: &[u64; 30]) {
     let mut i: usize = 0;
-    while i < 29 {
+    while i < 30 {
         line(i, counts[i]);
         i += 1;
     }
@@ -71,7 +71,7 @@ fn lines(counts: &[u64; 29]) {
 
 // The answers to all flag bytes in frames of n bytes.
 pub(crate) fn all(what: &[u8], held: bool, n: usize) {
-    let mut counts = [0u64; 29];
+    let mut counts = [0u64; 30];
     let mut f: usize = 0;
     while f < 256 {
         let i = place(answer_to((f % 256) as u8, held, n));

@@ -14,6 +14,7 @@ mod repeats;
 mod rooms;
 mod sends;
 mod show;
+mod sources;
 mod stores;
 mod values;
 
@@ -51,6 +52,7 @@ fn main() {
     arrivals::chunks(&mut recv, &mut send);
     arrivals::ends(&mut recv, &mut send);
     arrivals::cells(&mut recv, &mut send);
+    sources::all();
     arrivals::dones(&mut recv, &mut send);
     arrivals::wholes(&mut recv, &mut send);
     acks::states(&mut recv, &mut send);

@@ -58,8 +58,13 @@ pub(crate) fn fresh(recv: &mut [u8; 37140], send: &mut [u8; 37140]) {
 }
 
 // A packet comes in, and no line is written of it.
-pub(crate) fn quiet(recv: &mut [u8; 37140], send: &mut [u8; 37140], frame: &[u8; 1400]) {
-    let from = [0x11u8; 16];
+pub(crate) fn quiet(recv: &mut [u8], send: &mut [u8], frame: &[u8; 1400]) {
+    quiet_from(recv, send, 0x11, frame);
+}
+
+// The same from any sender, by the byte that its address has sixteen times.
+pub(crate) fn quiet_from(recv: &mut [u8], send: &mut [u8], sender: u8, frame: &[u8; 1400]) {
+    let from = [sender; 16];
     let to = [0x22u8; 16];
     let mut run = [0u8; 86];
     message::packet(recv, send, frame, &from, &to, b"\0", 1, &mut run);

@@ -23,10 +23,10 @@ pub(crate) fn byte(s: &[u8], a: usize) -> u8 {
 }
 
 // A copy of the first bytes of s.
-pub(crate) fn copy(s: &[u8]) -> [u8; 37140] {
-    let mut out = [0u8; 37140];
+pub(crate) fn copy(s: &[u8]) -> [u8; 64740] {
+    let mut out = [0u8; 64740];
     let mut i: usize = 0;
-    while i < 37140 {
+    while i < 64740 {
         out[i] = byte(s, i);
         i += 1;
     }
@@ -34,7 +34,7 @@ pub(crate) fn copy(s: &[u8]) -> [u8; 37140] {
 }
 
 // Whether s is as it was, from a on.
-pub(crate) fn kept(old: &[u8; 37140], s: &[u8], a: u64) -> bool {
+pub(crate) fn kept(old: &[u8; 64740], s: &[u8], a: u64) -> bool {
     let mut i: usize = 0;
     while i < s.len() {
         if i as u64 >= a {

@@ -7,7 +7,7 @@ use Rattle.message_values.proofs.flags.all.Statement.{statement}
 use Rattle.message_values.proofs.flags.all.Tie as tie
 
 abbrev Inv-loop : tie.InvT-loop
-Inv-loop what held n counts₀ f₀ counts f = (f ≤ 256) × (length counts ≡ 29)
+Inv-loop what held n counts₀ f₀ counts f = (f ≤ 256) × (length counts ≡ 30)
 
 abbrev μ-loop : tie.MeasureT-loop
 μ-loop what held n counts₀ f₀ counts f = 256 - f

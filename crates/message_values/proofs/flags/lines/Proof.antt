@@ -5,10 +5,10 @@ use Rattle.message_values.proofs.flags.lines.Statement.{statement}
 use Rattle.message_values.proofs.flags.lines.Tie as tie
 
 abbrev Inv-loop : tie.InvT-loop
-Inv-loop counts i₀ t3 i = i ≤ 29
+Inv-loop counts i₀ t3 i = i ≤ 30
 
 abbrev μ-loop : tie.MeasureT-loop
-μ-loop counts i₀ t3 i = 29 - i
+μ-loop counts i₀ t3 i = 30 - i
 
 pub lines-spec : {M : Type 1} → statement M
 lines-spec =

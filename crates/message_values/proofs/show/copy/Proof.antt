@@ -7,10 +7,10 @@ use Rattle.message_values.proofs.show.copy.Statement.{statement}
 use Rattle.message_values.proofs.show.copy.Tie as tie
 
 abbrev Inv-loop : tie.InvT-loop
-Inv-loop s out₀ i₀ out i = (i ≤ 37140) × (length out ≡ 37140)
+Inv-loop s out₀ i₀ out i = (i ≤ 64740) × (length out ≡ 64740)
 
 abbrev μ-loop : tie.MeasureT-loop
-μ-loop s out₀ i₀ out i = 37140 - i
+μ-loop s out₀ i₀ out i = 64740 - i
 
 loop-again : tie.Need-loop-again Inv-loop μ-loop
 loop-again c = (search needs, simp length-set (search needs))

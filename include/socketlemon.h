@@ -55,10 +55,14 @@ typedef struct {
 #define SOCKETLEMON_UNSOUND_STORE 25
 #define SOCKETLEMON_BAD_CALENDAR 26
 #define SOCKETLEMON_SHORT_FRAME 27
-#define SOCKETLEMON_REFUSALS 27
+#define SOCKETLEMON_SOURCE_FULL 28
+#define SOCKETLEMON_REFUSALS 28
 
 /* The bytes of a store with `cells` cells, 1 to 45. */
 #define SOCKETLEMON_STORE_BYTES(cells) (16 + 8 * 328 + 1380 * (size_t)(cells))
+
+/* The most cells of a receive store that the messages of one source hold. */
+#define SOCKETLEMON_SOURCE_CELLS 30
 
 #define SOCKETLEMON_RECEIVE 1
 #define SOCKETLEMON_SEND 2
@@ -91,7 +95,9 @@ socketlemon_answer socketlemon_address(const uint8_t *key, size_t key_len, uint8
  * an init 21 and its topic, a chunk 36 and as many as its size field says, a done 52; an acknowledgement needs 12, of a chunk
  * 36. Where fewer came it is a short frame; what came behind them is not read.
  * An init equal in source, destination, length, topic and reply flag to the arriving message of
- * its id is acknowledged and changes nothing; any other starts the message again. */
+ * its id is acknowledged and changes nothing; any other starts the message again.
+ * A piece that needs a new cell is refused (source full) where its message's source holds SOCKETLEMON_SOURCE_CELLS, counted
+ * over the messages that arrive and those that are whole, whoever sends the piece. */
 socketlemon_answer socketlemon_packet(uint8_t *recv, size_t recv_len, uint8_t *send, size_t send_len, const uint8_t *frame, size_t frame_len,
                                       const uint8_t *from, const uint8_t *to, const uint8_t *rules, size_t rules_len, uint64_t known, uint8_t *run,
                                       size_t run_len);

@@ -1,5 +1,6 @@
 /* Calls every export of the library from C, on a message of one piece that goes from a tablet to the office; then inits of a message
- * that has arrived in part, wakes within and outside of sending hours, wakes of a message of ten pieces, and frames of every length.
+ * that has arrived in part, wakes within and outside of sending hours, wakes of a message of ten pieces, frames of every length, and
+ * cells by source.
  * Exits with 0 and a last line 'N passed, 0 failed' if every answer is the expected one. */
 #include <stdio.h>
 #include <string.h>
@@ -347,10 +348,13 @@ static int is_never_enough(uint64_t size) {
     return right;
 }
 
+/* The sum of no bytes. */
+static const uint8_t empty_sum[32] = {0xaf, 0x13, 0x49, 0xb9, 0xf5, 0xf9, 0xa1, 0xa6, 0xa0, 0x40, 0x4d, 0xea, 0x36, 0xdc, 0xc9, 0x49,
+                                      0x9b, 0xcb, 0x25, 0xc9, 0xad, 0xc1, 0x12, 0xb7, 0xcc, 0x9a, 0x93, 0xca, 0xe4, 0x1f, 0x32, 0x62};
+
 /* Frames of every length: of each kind on stores that wait for it, with sizes that no frame has, and among the other refusals. */
 static void frames(void) {
-    static const uint8_t message[300], empty_sum[32] = {0xaf, 0x13, 0x49, 0xb9, 0xf5, 0xf9, 0xa1, 0xa6, 0xa0, 0x40, 0x4d, 0xea, 0x36, 0xdc, 0xc9, 0x49,
-                                                        0x9b, 0xcb, 0x25, 0xc9, 0xad, 0xc1, 0x12, 0xb7, 0xcc, 0x9a, 0x93, 0xca, 0xe4, 0x1f, 0x32, 0x62};
+    static const uint8_t message[300];
     int changed;
     socketlemon_setup(office, STORE, SOCKETLEMON_RECEIVE), socketlemon_setup(tablet, STORE, SOCKETLEMON_SEND);
     frame_of(0x80, 0, 0, INIT);
@@ -397,6 +401,80 @@ static void frames(void) {
     expect("25 before both", is_refused(tablet, unused_send, 0, SOCKETLEMON_UNSOUND_STORE) && is_refused(tablet, unused_send, 11, SOCKETLEMON_UNSOUND_STORE) &&
                                      is_refused(office, unused_recv, 0, SOCKETLEMON_UNSOUND_STORE) &&
                                      is_refused(office, unused_recv, 11, SOCKETLEMON_UNSOUND_STORE));
+}
+
+/* An office with the most cells; two sources, by the byte that their addresses have sixteen times; the flags of packets. */
+enum { WIDE = SOCKETLEMON_STORE_BYTES(45), RECORD = 328, FIRST_SOURCE = 16 + 16, LONGEST = 32500, FIRST = 0x11, OTHER = 0x33 };
+enum { INIT_FLAG = 0x80, CHUNK_FLAG = 0x10, DONE_FLAG = 0x40, ABORTED_FLAG = 0x20 };
+static uint8_t wide[WIDE], wide_was[WIDE];
+
+static void put_number(uint8_t *at, uint64_t n) {
+    for (int i = 8; i > 0; n >>= 8) at[--i] = (uint8_t)n;
+}
+
+/* Whether the wide office answers a number to a packet of an id that ends in `short_id`; if it refuses it, nothing has changed. */
+static int gives(uint64_t number, uint8_t sender, uint8_t short_id, uint8_t flags, uint64_t first, uint64_t offset, uint64_t size) {
+    uint8_t from[16];
+    memset(from, sender, sizeof from);
+    memset(frame, 0, sizeof frame);
+    frame[7] = short_id, frame[8] = flags;
+    put_number(frame + 12, first), put_number(frame + 20, offset), put_number(frame + 28, size);
+    if (flags == DONE_FLAG) memcpy(frame + 20, empty_sum, sizeof empty_sum);
+    memcpy(wide_was, wide, WIDE);
+    socketlemon_answer a = socketlemon_packet(wide, WIDE, unused_send, STORE, frame, 52 + size, from, here, rules, 1, 1, reply, sizeof reply);
+    return a.number == number && (number == 0 || (a.run == 0 && memcmp(wide, wide_was, WIDE) == 0));
+}
+
+static int announces(uint8_t source, uint8_t short_id, uint64_t length) { return gives(0, source, short_id, INIT_FLAG, length, 0, 0); }
+
+/* A piece of 250 bytes, and one of none. The first source sends them, whosever they are. */
+static int piece(uint64_t number, uint8_t short_id, uint64_t index) { return gives(number, FIRST, short_id, CHUNK_FLAG, index, 0, 250); }
+
+static int empty_piece(uint64_t number, uint8_t short_id, uint64_t index) { return gives(number, FIRST, short_id, CHUNK_FLAG, index, LONGEST, 0); }
+
+/* Whether pieces are kept at so many indexes from 0 on. */
+static int keeps(uint8_t short_id, uint64_t count) {
+    int right = 1;
+    for (uint64_t index = 0; index < count; index++) right &= piece(0, short_id, index);
+    return right;
+}
+
+/* The first source has announced the message 1, of which so many pieces have come, and 2. */
+static int holds_pieces(uint64_t count) {
+    return answers(socketlemon_setup(wide, WIDE, SOCKETLEMON_RECEIVE), 0, 0, 0) && announces(FIRST, 1, LONGEST) && keeps(1, count) &&
+           announces(FIRST, 2, LONGEST);
+}
+
+/* A message of no bytes with one piece of none is whole. */
+static int becomes_whole(uint8_t short_id) {
+    return announces(FIRST, short_id, 0) && gives(0, FIRST, short_id, CHUNK_FLAG, 0, 0, 0) && gives(0, FIRST, short_id, DONE_FLAG, 1, 0, 0);
+}
+
+static int takes(uint64_t number) { return socketlemon_take(wide, WIDE, data, sizeof data, run, sizeof run).number == number; }
+
+/* A source holds at most 30 cells. */
+static void sources(void) {
+    const uint64_t full = SOCKETLEMON_SOURCE_CELLS;
+    expect("29 cells of a source", holds_pieces(full - 1));
+    expect("the thirtieth, without bytes", empty_piece(0, 1, 29));
+    expect("no other", piece(SOCKETLEMON_SOURCE_FULL, 1, 30) && empty_piece(SOCKETLEMON_SOURCE_FULL, 1, 129) && piece(SOCKETLEMON_SOURCE_FULL, 2, 0));
+    expect("a held index needs none", piece(0, 1, 29) && piece(SOCKETLEMON_SOURCE_FULL, 1, 30));
+    expect("whoever sends", gives(SOCKETLEMON_SOURCE_FULL, OTHER, 1, CHUNK_FLAG, 30, 0, 250));
+    expect("8 to 11 before 28", piece(SOCKETLEMON_UNKNOWN_ID, 9, 30) && gives(SOCKETLEMON_PAST_END, FIRST, 1, CHUNK_FLAG, 30, LONGEST, 250) &&
+                                        piece(SOCKETLEMON_HIGH_INDEX, 1, 130) && gives(SOCKETLEMON_SHORT_PIECE, FIRST, 1, CHUNK_FLAG, 30, 0, 249));
+    expect("fifteen for another source", announces(OTHER, 3, LONGEST) && keeps(3, 15) && piece(SOCKETLEMON_NO_CELL, 3, 15));
+    expect("28 before 12", piece(SOCKETLEMON_SOURCE_FULL, 1, 30) && piece(0, 1, 29) && piece(0, 3, 14));
+
+    expect("whole messages", holds_pieces(full - 2) && becomes_whole(3) && becomes_whole(4));
+    expect("their cells count", piece(SOCKETLEMON_SOURCE_FULL, 1, 28) && takes(0) && piece(0, 1, 28) && piece(SOCKETLEMON_SOURCE_FULL, 1, 29));
+    expect("cells of an aborted message", holds_pieces(full) && piece(SOCKETLEMON_SOURCE_FULL, 2, 0) && gives(0, FIRST, 1, ABORTED_FLAG, 0, 0, 0) &&
+                                                  keeps(2, full) && piece(SOCKETLEMON_SOURCE_FULL, 2, 30));
+    expect("cells of one that starts again", holds_pieces(full) && announces(FIRST, 1, LONGEST) && piece(SOCKETLEMON_SOURCE_FULL, 2, 0) &&
+                                                     announces(FIRST, 1, LONGEST - 1) && keeps(2, full) && piece(SOCKETLEMON_SOURCE_FULL, 2, 30));
+
+    expect("31 cells of two sources", holds_pieces(full) && announces(OTHER, 2, LONGEST) && piece(0, 2, 0) && takes(SOCKETLEMON_NONE_WHOLE));
+    memcpy(wide + FIRST_SOURCE + RECORD, wide + FIRST_SOURCE, 16);
+    expect("31 of one are unsound", piece(SOCKETLEMON_UNSOUND_STORE, 1, 0) && takes(SOCKETLEMON_UNSOUND_STORE));
 }
 
 int main(void) {
@@ -449,6 +527,7 @@ int main(void) {
     bad_calendars();
     eight();
     frames();
+    sources();
     printf("%d passed, %d failed\n", passed, failed);
     return failed != 0;
 }

@@ -1,12 +1,12 @@
 /* Feeds random and mutated bytes, lengths, stores and numbers to every export, and checks of each answer: the number is one
  * of docs/PROTOCOL.md's, the run fits its buffer, bytes past what was written stay, and a refusal changed nothing. Of an init that
  * was accepted: an equal one has changed nothing either, and any other has left a fresh record. Of a frame: whether enough of it
- * came, and that no more was read. Of a wake: what its calendar says, and which pieces it sends, counts and stamps, by the models
- * here, which share nothing with the library.
+ * came, and that no more was read. Of a chunk: its number, by the cells that its source holds and by those that are free. Of a wake:
+ * what its calendar says, and which pieces it sends, counts and stamps, by the models here, which share nothing with the library.
  * Use: fuzz [SEED [ROUNDS [all]]]; under valgrind it also shows that nothing outside the buffers is touched, for each lies in an
  * allocation of its own. Exits with 0 if every answer was right and, with `all`, every refusal was met, both kinds of inits of a
- * message with pieces, frames of each kind at and around what they need, every way to spoil a calendar, wakes that would have sent
- * something, within hours and outside, and wakes with more to send than they may. */
+ * message with pieces, frames of each kind at and around what they need, pieces of sources at their limit and below it, every way to
+ * spoil a calendar, wakes that would have sent something, within hours and outside, and wakes with more to send than they may. */
 #include <stdio.h>
 #include <stdlib.h>
 #include <string.h>
@@ -197,6 +197,69 @@ static void accepted(buffer *stores, const arrival *init) {
     }
 }
 
+/* Chunks that need a cell, or are at a held index, by the cells of their record's source. */
+enum { LAST_OF_SOURCE, ABOVE_LIMIT, HELD_AT_LIMIT, WHOLE_COUNTED, BESIDE_FULL, NONE_FREE, OTHER_SENDER, NEITHER, SHARES };
+static unsigned long shares[SHARES];
+
+/* How many cells a record has. */
+static size_t cells_of(const uint8_t *store, const uint8_t *record) {
+    size_t count = 0;
+    for (size_t link = record[5]; link; link = store[CELLS_AT + (link - 1) * CELL]) count++;
+    return count;
+}
+
+/* Whether a record has a piece at an index. */
+static int has_piece(const uint8_t *store, const uint8_t *record, uint64_t index) {
+    for (size_t link = record[5]; link; link = store[CELLS_AT + (link - 1) * CELL])
+        if (store[CELLS_AT + (link - 1) * CELL + 1] == index) return 1;
+    return 0;
+}
+
+/* How many cells the records of a kind and a source hold: those that arrive, 1, or are whole, 2. */
+static size_t cells_from(const uint8_t *store, uint8_t kind, const uint8_t *source) {
+    size_t count = 0;
+    for (const uint8_t *record = store + RECORDS_AT; record < store + CELLS_AT; record += RECORD)
+        if (record[1] == kind && memcmp(record + 16, source, 16) == 0) count += cells_of(store, record);
+    return count;
+}
+
+/* Whether another source than this one holds as much as it may. */
+static int is_beside_full(const uint8_t *store, const uint8_t *source) {
+    for (const uint8_t *record = store + RECORDS_AT; record < store + CELLS_AT; record += RECORD)
+        if ((record[1] == 1 || record[1] == 2) && memcmp(record + 16, source, 16) != 0 &&
+            cells_from(store, 1, record + 16) + cells_from(store, 2, record + 16) == SOCKETLEMON_SOURCE_CELLS)
+            return 1;
+    return 0;
+}
+
+/* The number of a chunk in the words of documents 01 and 02, by the store before it. */
+static uint64_t chunk_number(const uint8_t *store, const uint8_t *frame, const uint8_t *from) {
+    const uint8_t *record = arriving(store, frame);
+    if (!record) return SOCKETLEMON_UNKNOWN_ID;
+    uint64_t length = number_at(record + 48), index = number_at(frame + 12), offset = number_at(frame + 20), size = number_at(frame + 28);
+    uint64_t top = length ? (length + 249) / 250 - 1 : 0;
+    if (offset > length || size > length - offset) return SOCKETLEMON_PAST_END;
+    if (index > top) return SOCKETLEMON_HIGH_INDEX;
+    if (size < 250 && index != top && offset + size != length) return SOCKETLEMON_SHORT_PIECE;
+    int is_free = store[3] != 0, is_other = memcmp(record + 16, from, 16) != 0;
+    size_t arrive = cells_from(store, 1, record + 16), all = arrive + cells_from(store, 2, record + 16);
+    if (has_piece(store, record, index)) {
+        shares[HELD_AT_LIMIT] += all == SOCKETLEMON_SOURCE_CELLS;
+        return 0;
+    }
+    if (all >= SOCKETLEMON_SOURCE_CELLS) {
+        shares[ABOVE_LIMIT]++, shares[WHOLE_COUNTED] += arrive < SOCKETLEMON_SOURCE_CELLS, shares[NEITHER] += !is_free;
+        shares[OTHER_SENDER] += is_other;
+        return SOCKETLEMON_SOURCE_FULL;
+    }
+    if (!is_free) {
+        shares[NONE_FREE]++;
+        return SOCKETLEMON_NO_CELL;
+    }
+    shares[LAST_OF_SOURCE] += all + 1 == SOCKETLEMON_SOURCE_CELLS, shares[BESIDE_FULL] += is_beside_full(store, record + 16);
+    return 0;
+}
+
 static int same_answer(socketlemon_answer a, socketlemon_answer b) {
     return a.number == b.number && a.run == b.run && a.wake == b.wake && a.pieces == b.pieces;
 }
@@ -237,6 +300,8 @@ static void packet_between(buffer *stores, buffer frame, const uint8_t *from, co
     int is_first = a.number == SOCKETLEMON_BAD_FRAME || a.number == SOCKETLEMON_SHORT_FRAME || a.number == SOCKETLEMON_NO_WORK ||
                    a.number == SOCKETLEMON_SHORT_OUTPUT;
     expect("the frame of a packet", a.number == SOCKETLEMON_UNSOUND_STORE || (first ? a.number == first : !is_first));
+    if (!first && a.number != SOCKETLEMON_UNSOUND_STORE && kind_of(frame.at[8]) == CHUNK)
+        expect("the number of a chunk", a.number == chunk_number(stores[0].was, frame.at, from));
     if (a.number == 0 && frame.len > needed(frame.at, frame.len) && below(4) == 0) without_rest(c, a);
     if (a.number == 0 && (frame.at[8] & 0x81) == 0x80) {
         memset(&last, 0, sizeof last);
@@ -625,8 +690,44 @@ static void one_call(buffer *stores) {
     drop(run), drop(data);
 }
 
+/* A packet of one of a few messages, of which two sources have announced some each. */
+static void crowd_packet(buffer *stores, uint8_t flags, uint8_t message, uint64_t first, uint64_t offset, uint64_t size) {
+    static const uint8_t empty_sum[32] = {0xaf, 0x13, 0x49, 0xb9, 0xf5, 0xf9, 0xa1, 0xa6, 0xa0, 0x40, 0x4d, 0xea, 0x36, 0xdc, 0xc9, 0x49,
+                                          0x9b, 0xcb, 0x25, 0xc9, 0xad, 0xc1, 0x12, 0xb7, 0xcc, 0x9a, 0x93, 0xca, 0xe4, 0x1f, 0x32, 0x62};
+    uint8_t from[16] = {0};
+    buffer frame = make(52 + (size_t)size);
+    memset(frame.at, 0, 36);
+    frame.at[7] = message, frame.at[8] = flags;
+    put_number(frame.at + 12, first), put_number(frame.at + 20, offset), put_number(frame.at + 28, size);
+    if (flags == 0x40) memcpy(frame.at + 20, empty_sum, sizeof empty_sum);
+    from[15] = flags == 0x80 ? message % 2 : (uint8_t)below(2);
+    packet_between(stores, frame, from, here);
+    drop(frame);
+}
+
+/* Two sources fill a store: pieces of long messages, and messages of no bytes with a piece of none, which become whole. */
+static void crowd(buffer *stores) {
+    for (uint8_t message = 0; message < 8; message++)
+        for (int tries = 0; tries < 20 && !arriving(stores[0].at, (const uint8_t[8]){0, 0, 0, 0, 0, 0, 0, message}); tries++)
+            crowd_packet(stores, 0x80, message, message < 4 ? 32500 : 0, 0, 0);
+    for (size_t calls = below(300); calls > 0; calls--) {
+        uint8_t message = (uint8_t)below(below(3) ? 3 : 8);
+        switch (below(16)) {
+        case 0: crowd_packet(stores, 0x80, message, message < 4 ? 32500 - below(2) * below(2) : 0, 0, 0); break;
+        case 1: crowd_packet(stores, 0x40, message, 1, 0, 0); break;
+        case 2:
+            if (below(16) == 0) crowd_packet(stores, 0x20, message, 0, 0, 0);
+            break;
+        case 3: crowd_packet(stores, 0x10, message, below(140), below(2) ? 32500 : below(40000), below(400)); break;
+        default:
+            if (message < 4) crowd_packet(stores, 0x10, message, below(36), 0, 250);
+            else crowd_packet(stores, 0x10, message, 0, 0, 0);
+        }
+    }
+}
+
 static void sequence(void) {
-    size_t cells = 1 + below(45);
+    size_t cells = below(4) ? 1 + below(45) : 45;
     buffer stores[2] = {make(SOCKETLEMON_STORE_BYTES(cells)), make(SOCKETLEMON_STORE_BYTES(1 + below(45)))};
     for (int i = 0; i < 2; i++) {
         size_t less = below(10) == 0;
@@ -637,6 +738,7 @@ static void sequence(void) {
         if (a.number != 0) socketlemon_setup(stores[i].at, stores[i].len, 1 + (uint64_t)i);
     }
     last.there = 0;
+    if (below(4) == 0) crowd(stores);
     for (size_t calls = below(120); calls > 0; calls--) one_call(stores);
     /* then a few calls on stores that somebody else has written to */
     for (size_t hits = 1 + below(4); hits > 0; hits--) {
@@ -661,9 +763,15 @@ int main(int argc, char **argv) {
     for (int i = 0; i < LENGTHS; i++) lengths_met += at_length[i] > 0;
     printf("frames a byte short, exact and a byte longer: %lu of %d met; lengths: %lu of %d; sizes near 2^64: %lu; with a rest that is not read: %lu\n",
            edges_met, KINDS * EDGES, lengths_met, LENGTHS, huge_sizes, rests);
+    unsigned long shares_met = 0;
+    for (int i = 0; i < SHARES; i++) shares_met += shares[i] > 0;
+    printf("pieces of a source with 29 cells: %lu kept; with 30: %lu refused (%lu with whole messages among them, %lu from another sender, %lu with no cell "
+           "free), %lu kept at a held index; of another beside it: %lu kept; %lu refused for want of a cell alone\n",
+           shares[LAST_OF_SOURCE], shares[ABOVE_LIMIT], shares[WHOLE_COUNTED], shares[OTHER_SENDER], shares[NEITHER], shares[HELD_AT_LIMIT],
+           shares[BESIDE_FULL], shares[NONE_FREE]);
     printf("wakes with something to send: %lu outside hours, %lu within a window; calendars spoiled in %lu of %d ways\n", shut_wakes, open_wakes, ways, WAYS);
     printf("wakes with more to send than eight: %lu; that sent new and due pieces: %lu; due ones of several stamps: %lu\n", full_wakes, mixed_wakes, aged_wakes);
     int wakes = shut_wakes && open_wakes && full_wakes && mixed_wakes && aged_wakes;
     int frames = edges_met == KINDS * EDGES && lengths_met == LENGTHS && huge_sizes && rests;
-    return failed != 0 || refusals < wanted || (wanted && !(equal_inits && other_inits && frames && wakes && ways == WAYS));
+    return failed != 0 || refusals < wanted || (wanted && !(equal_inits && other_inits && frames && shares_met == SHARES && wakes && ways == WAYS));
 }

@@ -198,7 +198,8 @@ impl Office {
     }
 
     /// Drops the arriving messages of unknown sources in favour of a known one: they cannot become whole, and must not keep others out. Says whether there
-    /// were any.
+    /// were any. The library lets no source have more than 30 cells, but one can announce eight messages, and whoever sends by two addresses can fill all
+    /// cells.
     fn make_room(&mut self, arrived: &Arrived) -> bool {
         let source = self.record(arrived).map_or(arrived.from, |record| record.source);
         if !self.known.has(source) {

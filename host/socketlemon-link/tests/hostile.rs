@@ -179,33 +179,116 @@ fn a_packet_that_is_cut_counts_as_lost() {
     assert!(folder.surveys() == [data]);
 }
 
+impl Voice {
+    /// Announces a message of the longest length, which the office acknowledges.
+    fn announce(&self, from: Address, id: u8) {
+        let init = [&[id; 8][..], &[0x80, 0, 0, 0], &32_500u64.to_be_bytes(), b"\x06survey"].concat();
+        self.send(from, &init);
+        assert!(self.receive(from).is_some(), "init {id}");
+    }
+
+    /// Sends pieces of it, at these indices, each of which is acknowledged.
+    fn pieces(&self, from: Address, id: u8, indices: std::ops::Range<u64>) {
+        for index in indices {
+            self.send(from, &piece(id, index));
+            assert!(self.receive(from).is_some(), "piece {index} of {id}");
+        }
+    }
+}
+
+/// A piece of 250 bytes.
+fn piece(id: u8, index: u64) -> Vec<u8> {
+    let numbers: Vec<u8> = [index, 0, 250].iter().flat_map(|n| n.to_be_bytes()).collect();
+    [&[id; 8][..], &[0x10, 0, 0, 0], &numbers, &[id; 250]].concat()
+}
+
+fn stranger(key: u8) -> Address {
+    Key([key; 32]).address()
+}
+
+/// The known tablet sends a survey of so many bytes, which arrives.
+fn a_survey_arrives(folder: &Folder, office: &mut Office, length: usize) {
+    let data = survey(length, 1);
+    let output = run(tablet(folder, office, &folder.file("survey", &data), &["--deadline", "40"]));
+    assert_eq!(output.status.code(), Some(0), "{output:?}");
+    assert!(office.runs());
+    assert!(folder.surveys() == [data]);
+}
+
+/// How many messages the office holds that are not whole.
+fn arriving(folder: &Folder) -> usize {
+    let mut kept = std::fs::read(folder.path("out/office.store")).expect("the office's file");
+    kept.truncate(Store::new(Role::Receive, Store::MOST_CELLS).expect("a store").as_bytes().len());
+    Store::from_bytes(Role::Receive, kept).expect("a sound store").records().count()
+}
+
 #[test]
-fn strangers_do_not_keep_a_known_tablet_out() {
+fn messages_of_a_stranger_do_not_keep_a_known_tablet_out() {
     let folder = Folder::new();
     introduce(&folder);
     let mut office = Office::start(&folder, "[::1]:0", &[]);
     let voice = Voice::to(&office);
-    let stranger = Key([9; 32]).address();
-    let packet = |id: u8, flags: u8, numbers: &[u64], tail: &[u8]| {
-        let numbers: Vec<u8> = numbers.iter().flat_map(|n| n.to_be_bytes()).collect();
-        [&[id; 8][..], &[flags, 0, 0, 0], &numbers, tail].concat()
-    };
-    // eight messages of a stranger take all records, and their pieces all cells; the office acknowledges each packet
-    for id in 0..8 {
-        voice.send(stranger, &packet(id, 0x80, &[7_800], b"\x06survey"));
-        assert!(voice.receive(stranger).is_some(), "init {id}");
-    }
-    for piece in 0..45u8 {
-        let (id, index) = (piece / 6, u64::from(piece % 6));
-        voice.send(stranger, &packet(id, 0x10, &[index, index * 1_300, 1_300], &[piece; 1_300]));
-        assert!(voice.receive(stranger).is_some(), "piece {piece}");
-    }
+    // no source may have all cells, but one can have all records
+    (0..8).for_each(|id| voice.announce(stranger(9), id));
+    a_survey_arrives(&folder, &mut office, 1_300);
+    assert_eq!(arriving(&folder), 0, "they were dropped");
+}
 
-    let data = survey(32_500, 1);
-    let output = run(tablet(&folder, &office, &folder.file("survey", &data), &["--deadline", "40"]));
-    assert_eq!(output.status.code(), Some(0), "{output:?}");
-    assert!(office.runs());
-    assert!(folder.surveys() == [data]);
+#[test]
+fn pieces_of_strangers_do_not_keep_a_known_tablet_out() {
+    let folder = Folder::new();
+    introduce(&folder);
+    let mut office = Office::start(&folder, "[::1]:0", &[]);
+    let voice = Voice::to(&office);
+    // two addresses have all cells between them
+    for (key, pieces) in [(9, 30), (10, 15)] {
+        voice.announce(stranger(key), key);
+        voice.pieces(stranger(key), key, 0..pieces);
+    }
+    a_survey_arrives(&folder, &mut office, 1_300);
+    assert_eq!(arriving(&folder), 0, "they were dropped");
+}
+
+#[test]
+fn one_stranger_leaves_fifteen_cells_and_is_left_alone_while_they_suffice() {
+    let folder = Folder::new();
+    introduce(&folder);
+    let mut office = Office::start(&folder, "[::1]:0", &[]);
+    let voice = Voice::to(&office);
+    voice.announce(stranger(9), 9);
+    voice.pieces(stranger(9), 9, 0..30);
+    voice.send(stranger(9), &piece(9, 30));
+    a_survey_arrives(&folder, &mut office, 15 * 1_300);
+    assert_eq!(arriving(&folder), 1, "the library itself has kept it out");
+    office.line(|line| line.contains("1 source full"));
+}
+
+#[test]
+fn a_longer_survey_takes_the_cells_of_a_stranger() {
+    let folder = Folder::new();
+    introduce(&folder);
+    let mut office = Office::start(&folder, "[::1]:0", &[]);
+    let voice = Voice::to(&office);
+    voice.announce(stranger(9), 9);
+    voice.pieces(stranger(9), 9, 0..30);
+    a_survey_arrives(&folder, &mut office, 32_500);
+    assert_eq!(arriving(&folder), 0, "it was dropped at the sixteenth piece");
+}
+
+#[test]
+fn a_known_tablet_that_is_full_takes_nothing_from_others() {
+    let folder = Folder::new();
+    introduce(&folder);
+    let mut office = Office::start(&folder, "[::1]:0", &[]);
+    let voice = Voice::to(&office);
+    let own = Key::of_file(&folder.path("tablet.key")).expect("the tablet's key").address();
+    voice.announce(stranger(9), 9);
+    voice.announce(own, 1);
+    voice.pieces(own, 1, 0..30);
+    voice.send(own, &piece(1, 30));
+    voice.announce(own, 2);
+    office.line(|line| line.contains("1 source full"));
+    assert_eq!(arriving(&folder), 3, "room among strangers would not help it");
 }
 
 #[test]

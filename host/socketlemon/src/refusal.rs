@@ -61,12 +61,14 @@ pub enum Refusal {
     BadCalendar,
     /// 27: fewer bytes came than the packet needs.
     ShortFrame,
+    /// 28: a piece needs a new cell while the source of its record holds 30.
+    SourceFull,
     /// A number that this crate has no name for. The library has none such; a newer one might.
     Other(u64),
 }
 
 /// Each refusal with its trade word; the first is number 1.
-const TABLE: [(Refusal, &str); 27] = [
+const TABLE: [(Refusal, &str); 28] = [
     (Refusal::BadFrame, "bad frame"),
     (Refusal::ShortOutput, "short output"),
     (Refusal::BadRules, "bad rules"),
@@ -94,6 +96,7 @@ const TABLE: [(Refusal, &str); 27] = [
     (Refusal::UnsoundStore, "unsound store"),
     (Refusal::BadCalendar, "bad calendar"),
     (Refusal::ShortFrame, "short frame"),
+    (Refusal::SourceFull, "source full"),
 ];
 
 impl Refusal {
@@ -106,7 +109,7 @@ impl Refusal {
         Some(row.map_or(Refusal::Other(number), |(refusal, _)| *refusal))
     }
 
-    /// Its number, 1 to 27.
+    /// Its number, 1 to 28.
     pub fn number(self) -> u64 {
         match (self, self.row()) {
             (Refusal::Other(number), _) => number,
@@ -135,7 +138,7 @@ mod tests {
     use super::*;
 
     /// The trade words of docs/PROTOCOL.md, copied from there and not from the code.
-    const WORDS: [&str; 27] = [
+    const WORDS: [&str; 28] = [
         "bad frame",
         "short output",
         "bad rules",
@@ -163,6 +166,7 @@ mod tests {
         "unsound store",
         "bad calendar",
         "short frame",
+        "source full",
     ];
 
     #[test]
@@ -182,7 +186,7 @@ mod tests {
 
     #[test]
     fn other_numbers_have_words_too() {
-        for n in [28, 255, u64::MAX] {
+        for n in [29, 255, u64::MAX] {
             let refusal = Refusal::from_number(n).expect("a refusal");
             assert_eq!(refusal, Refusal::Other(n));
             assert_eq!(refusal.number(), n);

@@ -45,6 +45,9 @@ impl Store {
     /// The most cells of a store; each holds a piece. 25 are enough for the longest message.
     pub const MOST_CELLS: usize = 45;
 
+    /// The most cells of a receive store that the messages of one source hold; a piece that needs one more is [`Refusal::SourceFull`].
+    pub const MOST_OF_SOURCE: usize = 30;
+
     /// A fresh store with 1 to 45 cells; any other number is [`Refusal::UnsoundStore`].
     pub fn new(role: Role, cells: usize) -> Result<Store, Refusal> {
         // one cell too many is refused by the library like any higher number, and is always small enough to lend
@@ -112,6 +115,9 @@ impl Store {
     ///
     /// An init of an arriving message that is equal to the one that opened it in source, destination, length, topic and reply flag is acknowledged, and
     /// changes nothing; any other starts the message again.
+    ///
+    /// A piece that needs a new cell is refused where its message's source holds [`MOST_OF_SOURCE`](Store::MOST_OF_SOURCE) of them: counted over the messages
+    /// of that source, arriving and whole, whoever sends the piece.
     pub fn packet<'r>(
         &mut self,
         send: &mut Store,

@@ -16,6 +16,9 @@ pub const FRAME: usize = 1400;
 /// The most cells of a store.
 pub const MOST_CELLS: usize = 45;
 
+/// The most cells that the messages of one source hold, of those that a node receives.
+pub const MOST_OF_SOURCE: usize = 30;
+
 /// The most pieces that a wake of the library sends.
 pub const WAKE_PIECES: usize = 8;
 
@@ -153,6 +156,7 @@ pub const BAD_FRAME: u64 = 1;
 pub const CLOSED_TOPIC: u64 = 4;
 pub const UNKNOWN_ID: u64 = 8;
 pub const SHORT_PIECE: u64 = 11;
+pub const NO_CELL: u64 = 12;
 pub const GAP: u64 = 14;
 pub const SUM: u64 = 16;
 pub const NO_WORK: u64 = 20;
@@ -160,6 +164,7 @@ pub const TOPIC_TOO_LARGE: u64 = 21;
 pub const NONE_WHOLE: u64 = 23;
 pub const BAD_CALENDAR: u64 = 26;
 pub const SHORT_FRAME: u64 = 27;
+pub const SOURCE_FULL: u64 = 28;
 
 /// What the original put out after a call.
 #[derive(Clone, Debug, PartialEq, Eq, Default)]
@@ -199,6 +204,6 @@ impl Got {
 
     /// Whether the number is one that the original does not have: such a call is outside the comparison.
     pub fn is_added_refusal(&self) -> bool {
-        matches!(self.number, 1..=3 | 6 | 7 | 12 | 22..=27)
+        matches!(self.number, 1..=3 | 6 | 7 | NO_CELL | 22..=SOURCE_FULL)
     }
 }

@@ -10,7 +10,8 @@ pub const USAGE: &str = "usage:
       compares with the original, N sequences of N steps each; a fault must be found:
       reply, report, take, wake, deadline, mark, refused, number, leave, stay, leave-init, leave-early,
       stay-init, restart, skip, shut, stamp, open, calendar, nine, unsent, wanting, due-first, falling,
-      counted, stay-full, leave-full, fill, cut or spill
+      counted, stay-full, leave-full, fill, cut, spill, stay-source, leave-source, few-cells, whole-free,
+      sender-counted, cell-first or drop-source
   oracle replay FILE...
       replays lists of what the original put out
   oracle record FOLDER

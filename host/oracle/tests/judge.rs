@@ -45,8 +45,16 @@ mod with_the_original {
     /// Few sequences suffice to meet each fault; the full run has the same ones first.
     const SEEDS: &str = "40";
 
+    /// A sender who holds 30 cells seldom sends a piece of another source.
+    fn seeds(fault: &str) -> &str {
+        match fault {
+            "sender-counted" => "1000",
+            _ => SEEDS,
+        }
+    }
+
     /// Each fault, with the call at which it must show.
-    const FAULTS: [(&str, &str); 30] = [
+    const FAULTS: [(&str, &str); 37] = [
         ("reply", "packet"),
         ("report", "report"),
         ("take", "take"),
@@ -77,12 +85,20 @@ mod with_the_original {
         ("fill", "packet"),
         ("cut", "packet"),
         ("spill", "packet"),
+        ("stay-source", "packet"),
+        ("leave-source", "packet"),
+        ("few-cells", "packet"),
+        ("whole-free", "packet"),
+        ("sender-counted", "packet"),
+        ("cell-first", "packet"),
+        ("drop-source", "packet"),
     ];
 
     /// Why ids leave.
     const SHORT_LAST_PIECE: &str = "C-11, a short last piece";
     const EQUAL_INIT: &str = "C-12, an equal init";
     const FULL_WAKE: &str = "C-15, a wake with more than eight pieces to send";
+    const FULL_SOURCE: &str = "C-18, a piece of a source with 30 cells";
 
     /// How many sequences are searched for one in which an id leaves before a difference.
     const SEARCHED: u64 = 1_000;
@@ -113,14 +129,14 @@ mod with_the_original {
             last.split(' ').next().and_then(|number| number.parse().ok()).expect("a number of calls");
         assert!(calls > 10_000, "{last}");
         let left = text.lines().find(|line| line.contains(" ids left the comparison: ")).expect("who left");
-        let told = [SHORT_LAST_PIECE, EQUAL_INIT, FULL_WAKE].map(|why| format!(" {why}: "));
+        let told = [SHORT_LAST_PIECE, EQUAL_INIT, FULL_WAKE, FULL_SOURCE].map(|why| format!(" {why}: "));
         assert!(told.iter().all(|why| left.contains(why)) && !left.starts_with("  0 of "), "{left}");
     }
 
     #[test]
     fn each_fault_is_found_where_it_is() {
         for (fault, call) in FAULTS {
-            let (status, text) = oracle(&["--seeds", SEEDS, "--fault", fault]);
+            let (status, text) = oracle(&["--seeds", seeds(fault), "--fault", fault]);
             assert_eq!(status, 1, "{fault} is not found: {text}");
             assert!(text.starts_with("# seed "), "{fault}: {text}");
             assert!(last_call(&text).starts_with(call), "{fault} is found at '{}'", last_call(&text));
@@ -136,6 +152,8 @@ mod with_the_original {
             ("leave-early", EQUAL_INIT, "the original then answers "),
             ("restart", EQUAL_INIT, "the library's stores have changed"),
             ("leave-full", FULL_WAKE, "7 pieces want sending and the original sends 0 1 2 3 4 5 6"),
+            ("leave-source", FULL_SOURCE, "the library answers 0 and the original 0"),
+            ("drop-source", FULL_SOURCE, "the library's stores have changed"),
         ] {
             let (_, text) = oracle(&["--seeds", SEEDS, "--fault", fault]);
             let first = text.lines().next().expect("a first line");
@@ -179,6 +197,23 @@ mod with_the_original {
         }
     }
 
+    /// Faults in which pieces the library refuses for their source's cells, with what is said of them. Some show at a
+    /// piece of an id that has left, too.
+    #[test]
+    fn a_source_is_full_with_30_cells_of_its_own() {
+        for (fault, told) in [
+            ("stay-source", ": the library answers 28 without reason"),
+            ("few-cells", ": the library answers 28"),
+            ("sender-counted", ": the library answers 28"),
+            ("whole-free", " the library answers 0"),
+            ("cell-first", " the library answers 12"),
+        ] {
+            let (_, text) = oracle(&["--seeds", seeds(fault), "--fault", fault]);
+            let first = text.lines().next().expect("a first line");
+            assert!(first.contains(told), "{fault}: {first}");
+        }
+    }
+
     /// Faults in what a wake sends, stamps or counts, with what is said of them.
     #[test]
     fn the_pieces_of_a_wake_are_counted() {
@@ -210,7 +245,7 @@ mod with_the_original {
 
     #[test]
     fn a_difference_comes_with_the_shortest_beginning_that_shows_it() {
-        for fault in ["reply", "leave", "stay", "stay-init", "stay-full"] {
+        for fault in ["reply", "leave", "stay", "stay-init", "stay-full", "stay-source"] {
             let (_, text) = oracle(&["--seeds", SEEDS, "--fault", fault]);
             differs_at_its_last_call(fault, &text);
         }
@@ -218,7 +253,13 @@ mod with_the_original {
 
     #[test]
     fn it_does_so_after_an_id_has_left() {
-        for (name, why) in [("short", SHORT_LAST_PIECE), ("equal", EQUAL_INIT), ("full", FULL_WAKE)] {
+        let each = [
+            ("short", SHORT_LAST_PIECE),
+            ("equal", EQUAL_INIT),
+            ("full", FULL_WAKE),
+            ("source", FULL_SOURCE),
+        ];
+        for (name, why) in each {
             let told = format!(
                 " has left the comparison: {why}; its calls are here with the library's own answers\n"
             );
@@ -238,7 +279,7 @@ mod with_the_original {
         assert!(text.contains("  0 of ") && text.contains(" ids left the comparison\n"), "{text}");
         let missing =
             text.lines().find(|line| line.starts_with("not met in this run: ")).expect("what is missing");
-        for name in [SHORT_LAST_PIECE, EQUAL_INIT, FULL_WAKE] {
+        for name in [SHORT_LAST_PIECE, EQUAL_INIT, FULL_WAKE, FULL_SOURCE] {
             let told = format!(", an id that leaves the comparison ({name})");
             assert!(missing.contains(&told), "{missing}");
         }

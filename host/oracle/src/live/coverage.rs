@@ -8,6 +8,7 @@ use crate::call::{
 use crate::frame::{self, Kind};
 use crate::live::left::Listed;
 use crate::live::run::{AGED, BY_HOURS, EIGHT, FULL, KEPT_BACK, MALFORMED, MIXED, OUTSIDE, STAYS};
+use crate::live::run::{AT_LIMIT, BESIDE_FULL, LAST_CELL, NONE_FREE, OTHER_SENDER, WHOLE_COUNTED};
 use crate::live::tally::{Label, Tally};
 
 #[derive(Default)]
@@ -55,7 +56,7 @@ const ACK_DONE: &str = "an acknowledgement of a done";
 pub const BOUNDARY_LENGTHS: [usize; 11] = [0, 1, 249, 250, 251, 1299, 1300, 1301, 1550, 32_499, 32_500];
 
 /// What a full run must have met at least once.
-const NEEDED: [&str; 32] = [
+const NEEDED: [&str; 38] = [
     "push",
     "push, topic too large",
     "reply pushed",
@@ -88,6 +89,12 @@ const NEEDED: [&str; 32] = [
     FULL,
     MIXED,
     AGED,
+    LAST_CELL,
+    AT_LIMIT,
+    BESIDE_FULL,
+    WHOLE_COUNTED,
+    NONE_FREE,
+    OTHER_SENDER,
 ];
 
 const EQUAL_INIT: &str = "init again, before any piece";
@@ -351,18 +358,20 @@ mod tests {
             Listed::ALL.map(|why| by(why.name()))
         };
         assert_eq!(coverage.left_line(), "  0 of 3 ids left the comparison\n");
-        assert_eq!(missing(&coverage), [true, true, true]);
+        assert_eq!(missing(&coverage), [true; 4]);
         coverage.join(met(4, 2));
-        assert_eq!(missing(&coverage), [false, true, true]);
+        assert_eq!(missing(&coverage), [false, true, true, true]);
         let line = "  2 of 7 ids left the comparison: C-11, a short last piece: 2\n";
         assert!(coverage.lines().ends_with(line), "{}", coverage.lines());
         coverage.left(Listed::EqualInit);
-        assert_eq!(missing(&coverage), [false, false, true]);
+        assert_eq!(missing(&coverage), [false, false, true, true]);
         let line = "  3 of 7 ids left the comparison: C-11, a short last piece: 2; C-12, an equal init: 1\n";
         assert!(coverage.lines().ends_with(line), "{}", coverage.lines());
         coverage.left(Listed::FullWake);
-        assert_eq!(missing(&coverage), [false, false, false]);
-        let end = "; C-15, a wake with more than eight pieces to send: 1\n";
+        assert_eq!(missing(&coverage), [false, false, false, true]);
+        coverage.left(Listed::FullSource);
+        assert_eq!(missing(&coverage), [false; 4]);
+        let end = "; C-15, a wake with more than eight pieces to send: 1; C-18, a piece of a source with 30 cells: 1\n";
         assert!(coverage.lines().ends_with(end), "{}", coverage.lines());
     }
 

@@ -1,11 +1,14 @@
 //! Deliberate faults, in what the judge is told to expect or in what the library is made to do: each must be
 //! found.
 
-use crate::call::{Call, Got, Hours, Packet, Said, Wake, Woke, FRAME, SHORT_FRAME, SHORT_PIECE};
+use crate::call::{
+    Call, Got, Hours, Packet, Said, Wake, Woke, FRAME, MOST_OF_SOURCE, NO_CELL, SHORT_FRAME, SHORT_PIECE,
+    SOURCE_FULL,
+};
 use crate::frame;
 use crate::library::Node;
 use crate::live::hours::{says, Says};
-use crate::live::left::{acknowledged, Again, Listed, Short};
+use crate::live::left::{acknowledged, Again, Listed, New, Short};
 use crate::live::sender::Wanting;
 use crate::live::tally::Tally;
 
@@ -75,10 +78,24 @@ pub enum Fault {
     Cut,
     /// The library changes its store with a short frame that it refuses.
     Spill,
+    /// No id left out at a piece of a source with 30 cells.
+    StaySource,
+    /// An id left out at a piece of a source with 29 cells too.
+    LeaveSource,
+    /// The library refuses the thirtieth cell of a source.
+    FewCells,
+    /// The library counts no cells of whole messages.
+    WholeFree,
+    /// The library counts the cells of the packet's sender.
+    SenderCounted,
+    /// The library refuses a piece of a source with 30 cells for want of a cell where none is free.
+    CellFirst,
+    /// The library drops the message of a piece that it refuses for its source.
+    DropSource,
 }
 
 /// Each fault by the name that the command line knows.
-pub const FAULTS: [(&str, Fault); 30] = [
+pub const FAULTS: [(&str, Fault); 37] = [
     ("reply", Fault::Reply),
     ("report", Fault::Report),
     ("take", Fault::Take),
@@ -109,6 +126,13 @@ pub const FAULTS: [(&str, Fault); 30] = [
     ("fill", Fault::Fill),
     ("cut", Fault::Cut),
     ("spill", Fault::Spill),
+    ("stay-source", Fault::StaySource),
+    ("leave-source", Fault::LeaveSource),
+    ("few-cells", Fault::FewCells),
+    ("whole-free", Fault::WholeFree),
+    ("sender-counted", Fault::SenderCounted),
+    ("cell-first", Fault::CellFirst),
+    ("drop-source", Fault::DropSource),
 ];
 
 impl Fault {
@@ -146,6 +170,12 @@ impl Fault {
             Self::LeaveInit if again().is_some_and(|init| init.is_late()) => Some(Listed::EqualInit),
             Self::LeaveEarly if again().is_some_and(|init| init.is_equal()) => Some(Listed::EqualInit),
             Self::StayInit => listed.filter(|why| *why != Listed::EqualInit),
+            Self::StaySource => listed.filter(|why| *why != Listed::FullSource),
+            Self::LeaveSource
+                if New::of(packet, tally).is_some_and(|piece| piece.cells + 1 == MOST_OF_SOURCE) =>
+            {
+                Some(Listed::FullSource)
+            }
             _ => listed,
         }
     }
@@ -185,11 +215,42 @@ impl Fault {
             {
                 node.call(&resized(packet, packet.bytes.len() - 1))
             }
+            (_, Call::Packet(packet)) if is_new(packet, tally, |piece| self.wrongs(piece, tally)) => {
+                self.wrong_share(node, packet)
+            }
             (Self::Counted, Call::Packet(_)) => {
                 let got = node.call(call);
                 Got { pieces: got.packets.len() as u64, ..got }
             }
             _ => node.call(call),
+        }
+    }
+
+    /// Whether the fault makes the library treat a new piece wrongly for its source's cells.
+    fn wrongs(self, piece: &New, tally: &Tally) -> bool {
+        let is_full = piece.cells >= MOST_OF_SOURCE;
+        match self {
+            Self::FewCells => piece.cells + 1 == MOST_OF_SOURCE,
+            Self::WholeFree => is_full && piece.cells - piece.of_whole < MOST_OF_SOURCE,
+            Self::SenderCounted => !is_full && piece.of_sender >= MOST_OF_SOURCE,
+            Self::CellFirst => is_full && !tally.has_free_cell(),
+            Self::DropSource => is_full,
+            _ => false,
+        }
+    }
+
+    /// What the library then answers.
+    fn wrong_share(self, node: &mut Node, packet: &Packet) -> Got {
+        let refused = |number| Got { number, ..Got::default() };
+        match self {
+            Self::WholeFree => Got { packets: vec![acknowledged(packet)], ..Got::default() },
+            Self::CellFirst => refused(NO_CELL),
+            Self::DropSource => {
+                let bytes = frame::bare(packet.id(), frame::ABORTED);
+                node.call(&Call::Packet(Packet { bytes, ..packet.clone() }));
+                refused(SOURCE_FULL)
+            }
+            _ => refused(SOURCE_FULL),
         }
     }
 
@@ -222,6 +283,11 @@ impl Fault {
         }
         got
     }
+}
+
+/// Whether a packet brings a new piece of which something holds.
+fn is_new(packet: &Packet, tally: &Tally, holds: impl Fn(&New) -> bool) -> bool {
+    frame::refusal(&packet.bytes).is_none() && New::of(packet, tally).is_some_and(|piece| holds(&piece))
 }
 
 /// Whether fewer bytes came than a packet needs.

@@ -5,7 +5,9 @@
 
 use std::collections::BTreeMap;
 
-use crate::call::{Id, Packet, Said, Woke, ACK, CLOSED_TOPIC, FRAME, GAP, SHORT_PIECE, SUM};
+use crate::call::{
+    Id, Packet, Said, Woke, ACK, CLOSED_TOPIC, FRAME, GAP, MOST_OF_SOURCE, SHORT_PIECE, SOURCE_FULL, SUM,
+};
 use crate::frame::{self, Kind};
 use crate::live::tally::{fresh_slots, Arriving, Label, Tally};
 
@@ -22,11 +24,13 @@ pub enum Listed {
     EqualInit,
     /// A wake with more than eight pieces to send sends the first eight; the original sends all.
     FullWake,
+    /// A piece that needs a cell is refused where its message's source holds 30; the original keeps it.
+    FullSource,
 }
 
 impl Listed {
     /// All of them.
-    pub const ALL: [Self; 3] = [Self::ShortLastPiece, Self::EqualInit, Self::FullWake];
+    pub const ALL: [Self; 4] = [Self::ShortLastPiece, Self::EqualInit, Self::FullWake, Self::FullSource];
 
     /// Its name in what is printed.
     pub fn name(self) -> &'static str {
@@ -34,16 +38,18 @@ impl Listed {
             Self::ShortLastPiece => "C-11, a short last piece",
             Self::EqualInit => "C-12, an equal init",
             Self::FullWake => "C-15, a wake with more than eight pieces to send",
+            Self::FullSource => "C-18, a piece of a source with 30 cells",
         }
     }
 
     /// Of 100 ids, at most so many may leave the comparison of a full run for it: with more it compares too little.
-    /// This is a little above what a full run has: 3.4, 1.4, 14.1.
+    /// This is a little above what a full run has: 3.4, 1.4, 14.1, 3.9.
     pub fn most_in_100(self) -> u64 {
         match self {
             Self::ShortLastPiece => 4,
             Self::EqualInit => 2,
             Self::FullWake => 15,
+            Self::FullSource => 5,
         }
     }
 
@@ -55,18 +61,27 @@ impl Listed {
 
     fn treats(self, packet: &Packet, tally: &Tally) -> bool {
         match self {
-            Self::ShortLastPiece => Short::of(packet, tally).is_some_and(|short| short.ends),
+            Self::ShortLastPiece => {
+                Short::of(packet, tally).is_some_and(|short| short.ends)
+                    && !Self::FullSource.treats(packet, tally)
+            }
             Self::EqualInit => Again::of(packet, tally).is_some_and(|init| init.is_equal() && init.is_late()),
             // it is a wake that is treated otherwise, and no packet
             Self::FullWake => false,
+            Self::FullSource => New::of(packet, tally).is_some_and(|piece| piece.cells >= MOST_OF_SOURCE),
         }
+    }
+
+    /// Whether the library refuses what it treats otherwise, with a number that the original does not have.
+    pub fn is_refusal(self) -> bool {
+        self == Self::FullSource
     }
 
     /// Whether the original has refused the packet for a reason that both have, so that its id stays.
     /// The tally knows no rule book.
     pub fn is_refused(self, said: &Said) -> bool {
         match self {
-            Self::ShortLastPiece | Self::FullWake => false,
+            Self::ShortLastPiece | Self::FullWake | Self::FullSource => false,
             Self::EqualInit => said.number == CLOSED_TOPIC,
         }
     }
@@ -78,20 +93,24 @@ impl Listed {
                 Said { packets: vec![acknowledged(packet)], woke: Some(Woke::No), ..Said::default() }
             }
             Self::FullWake => Said::default(),
+            Self::FullSource => Said { number: SOURCE_FULL, woke: Some(Woke::No), ..Said::default() },
         }
     }
 
     /// Whether no byte of the library's stores may have changed with the packet.
     pub fn keeps_stores(self) -> bool {
-        self == Self::EqualInit
+        matches!(self, Self::EqualInit | Self::FullSource)
     }
 
-    /// Whether the original says what the difference is from. To an equal init it says what the library does.
+    /// Whether the original says what the difference is from. To an equal init it says what the library does;
+    /// of a source with 30 cells it refuses a short last piece only.
     pub fn is_from(self, packet: &Packet, said: &Said) -> bool {
         match self {
             Self::ShortLastPiece => said.number == SHORT_PIECE && said.packets.is_empty(),
             Self::EqualInit => said.number == 0 && said.packets == [acknowledged(packet)],
             Self::FullWake => false,
+            Self::FullSource if said.number == SHORT_PIECE => said.packets.is_empty() && is_short(packet),
+            Self::FullSource => said.number == 0 && said.packets == [acknowledged(packet)],
         }
     }
 
@@ -123,9 +142,46 @@ impl Short {
         let [index, offset] = [0, 1].map(|place| frame::field(&packet.bytes, place));
         let size = frame::piece(&packet.bytes).len() as u64;
         let end = offset.checked_add(size)?;
-        let top = length.div_ceil(SHORTEST).saturating_sub(1);
-        (end <= length && index < top && size < SHORTEST).then_some(Self { ends: end == length })
+        (end <= length && index < top(length) && size < SHORTEST).then_some(Self { ends: end == length })
     }
+}
+
+/// Whether a packet brings a piece that the original keeps at the top index alone.
+fn is_short(packet: &Packet) -> bool {
+    (frame::piece(&packet.bytes).len() as u64) < SHORTEST
+}
+
+/// A piece of a message that arrives, at an index where there is none yet.
+/// The library has no other reason to refuse it than the cells.
+pub struct New {
+    /// How many cells its message's source holds, and how many of them messages that are whole.
+    pub cells: usize,
+    pub of_whole: usize,
+    /// Whether the packet's sender is another, and how many cells he holds.
+    pub is_of_other: bool,
+    pub of_sender: usize,
+}
+
+impl New {
+    /// The new piece that the packet brings, if it brings one.
+    pub fn of(packet: &Packet, tally: &Tally) -> Option<Self> {
+        if !packet.is_piece() {
+            return None;
+        }
+        let Arriving { label: Label { source, length, .. }, pieces } = tally.arriving.get(&packet.id())?;
+        let [index, offset] = [0, 1].map(|place| frame::field(&packet.bytes, place));
+        let end = offset.checked_add(frame::piece(&packet.bytes).len() as u64)?;
+        let too_short = Short::of(packet, tally).is_some_and(|short| !short.ends);
+        let is_new = end <= *length && index <= top(*length) && !too_short && !pieces.contains_key(&index);
+        let [cells, of_sender] = [source, &packet.from].map(|address| tally.cells_from(address));
+        let (of_whole, is_of_other) = (tally.whole_from(source), packet.from != *source);
+        is_new.then_some(Self { cells, of_whole, is_of_other, of_sender })
+    }
+}
+
+/// The highest index of a message of this length.
+fn top(length: u64) -> u64 {
+    length.div_ceil(SHORTEST).saturating_sub(1)
 }
 
 /// An init of a message that arrives.

@@ -19,11 +19,13 @@ use crate::live::words;
 
 mod eight;
 mod in_vain;
+mod share;
 mod short;
 mod unjudged;
 
 pub use eight::{AGED, EIGHT, FULL, MIXED, STAYS};
 pub use in_vain::{BY_HOURS, KEPT_BACK, MALFORMED, OUTSIDE};
+pub use share::{AT_LIMIT, BESIDE_FULL, LAST_CELL, NONE_FREE, OTHER_SENDER, WHOLE_COUNTED};
 
 /// What is done to both sides.
 pub enum Step {
@@ -153,7 +155,7 @@ impl<'a> Run<'a> {
         let listed = self.listed(&call);
         let before = listed.map(|_| self.node.clone());
         let got = self.ask_library(&call);
-        if got.is_added_refusal() {
+        if got.is_added_refusal() && !listed.is_some_and(Listed::is_refusal) {
             return self.added_refusal(call, &got);
         }
         let mut said = self.ask_original(&call);
@@ -232,6 +234,9 @@ impl<'a> Run<'a> {
                     self.tally.handled_here(packet, said);
                 } else {
                     self.coverage.init(packet, said, &self.tally);
+                    if said.number == 0 {
+                        self.saw_kept(packet);
+                    }
                     self.tally.handled(packet, said);
                 }
                 if self.tally.arriving.contains_key(&packet.id()) {

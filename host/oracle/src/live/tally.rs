@@ -4,7 +4,7 @@
 
 use std::collections::BTreeMap;
 
-use crate::call::{Address, Call, Id, Packet, Push, Said, Setup, Taken, ACK, UNKNOWN_ID};
+use crate::call::{Address, Call, Id, Packet, Push, Said, Setup, Taken, ACK, MOST_OF_SOURCE, UNKNOWN_ID};
 use crate::frame::{self, Kind};
 use crate::live::sender::Sender;
 
@@ -73,6 +73,13 @@ pub fn fresh_slots(length: u64) -> u64 {
     length.div_ceil(CUT as u64)
 }
 
+/// A message that is whole: its source, and how many cells it holds.
+#[derive(Clone, Copy, Debug, PartialEq, Eq)]
+pub struct Whole {
+    pub source: Address,
+    pub cells: usize,
+}
+
 /// A message that arrives.
 #[derive(Default)]
 pub struct Arriving {
@@ -101,8 +108,7 @@ pub struct Tally {
     /// What wakes put out for each message that was pushed last under its id.
     pub senders: BTreeMap<Id, Sender>,
     pub arriving: BTreeMap<Id, Arriving>,
-    /// The cells of each whole message.
-    pub whole: BTreeMap<Id, usize>,
+    pub whole: BTreeMap<Id, Whole>,
 }
 
 impl Tally {
@@ -142,19 +148,45 @@ impl Tally {
 
     fn packet_reason(&self, packet: &Packet, number: u64) -> bool {
         let (id, frame) = (packet.id(), &packet.bytes);
-        let used: usize =
-            self.arriving.values().map(|m| m.pieces.len()).chain(self.whole.values().copied()).sum();
         match (number, frame::kind(packet.flags()), packet.flags() & ACK) {
             (6, Kind::Init, 0) => frame::field(frame, 0) > LONGEST,
             (7, Kind::Init, 0) => {
                 self.arriving.len() + self.whole.len() == RECORDS && !self.arriving.contains_key(&id)
             }
             (12, Kind::Chunk, 0) => {
-                used == self.recv_cells
+                !self.has_free_cell()
                     && self.arriving.get(&id).is_some_and(|m| !m.pieces.contains_key(&frame::field(frame, 0)))
             }
             _ => false,
         }
+    }
+
+    /// How many cells each message holds that arrives or is whole, with its source.
+    fn shares(&self) -> impl Iterator<Item = Whole> + '_ {
+        let arriving = self.arriving.values();
+        let share = |m: &Arriving| Whole { source: m.label.source, cells: m.pieces.len() };
+        arriving.map(share).chain(self.whole.values().copied())
+    }
+
+    /// Whether a cell is free for a piece that arrives.
+    pub fn has_free_cell(&self) -> bool {
+        self.shares().map(|share| share.cells).sum::<usize>() < self.recv_cells
+    }
+
+    /// How many cells the messages of a source hold that arrive or are whole.
+    pub fn cells_from(&self, source: &Address) -> usize {
+        self.shares().filter(|share| share.source == *source).map(|share| share.cells).sum()
+    }
+
+    /// Whether another source than this one holds as many as it may.
+    pub fn is_full_but_for(&self, source: &Address) -> bool {
+        let mut others = self.shares().filter(|share| share.source != *source);
+        others.any(|share| self.cells_from(&share.source) == MOST_OF_SOURCE)
+    }
+
+    /// How many of them whole messages hold.
+    pub fn whole_from(&self, source: &Address) -> usize {
+        self.whole.values().filter(|share| share.source == *source).map(|share| share.cells).sum()
     }
 
     /// The number of what the original did with a packet: by its own words, else by its replies, else by what it holds, of which it says nothing.
@@ -222,8 +254,8 @@ impl Tally {
                     .insert(frame::field(frame, 0), frame::piece(frame).to_vec());
             }
             (Kind::Done, false) => {
-                let pieces = self.arriving.remove(&id).map_or(0, |m| m.pieces.len());
-                self.whole.insert(id, pieces);
+                let message = self.arriving.remove(&id).unwrap_or_default();
+                self.whole.insert(id, Whole { source: message.label.source, cells: message.pieces.len() });
             }
             (Kind::Aborted, _) => {
                 self.arriving.remove(&id);

@@ -3,7 +3,7 @@
 //! the comparison's own count of pieces.
 
 use super::{of, Difference, Run};
-use crate::call::{Call, Got, Hours, Id, Packet, Said, Taken, Wake};
+use crate::call::{Call, Got, Hours, Id, Packet, Said, Taken, Wake, SOURCE_FULL};
 use crate::frame;
 use crate::judge::{judge, judge_count};
 use crate::library::Node;
@@ -43,6 +43,9 @@ impl Run<'_> {
         } else {
             self.probe(why, &packet)
         };
+        if why == Listed::FullSource {
+            self.saw_refused(&packet);
+        }
         let call = Call::Packet(packet);
         if let Some(otherwise) = otherwise {
             let why = format!("left out ({}), though {otherwise}", why.name());
@@ -71,7 +74,17 @@ impl Run<'_> {
             self.coverage.outside(OF_LEFT.to_string());
             return Ok(Vec::new());
         };
+        let is_full = Listed::of(packet, &self.tally) == Some(Listed::FullSource);
+        let asked = if is_full { Listed::FullSource.asked(packet) } else { Said::default() };
         let got = self.ask_library(&call);
+        if (got.number == SOURCE_FULL) != is_full {
+            let why = format!(
+                "the library answers {}, where the source is {}full",
+                got.number,
+                if is_full { "" } else { "not " }
+            );
+            return Err(self.differ(call, asked, why));
+        }
         let in_domain = !got.is_added_refusal() && !is_too_long(packet);
         let mut woken = if in_domain { self.original.call(&call).packets } else { Vec::new() };
         words::last_refusal();
@@ -306,7 +319,7 @@ mod tests {
             call(run, packet(frame::chunk(LEFT, 0, 2, 0, 450, &[2; 450])));
             let sum = blake3::hash(&[vec![0; 250], vec![1; 1_300], vec![2; 450]].concat());
             let done = call(run, packet(frame::done(LEFT, 0, 3, sum.as_bytes())));
-            assert_eq!((done.len(), run.tally.whole.get(&LEFT)), (1, Some(&3)));
+            assert_eq!((done.len(), run.tally.whole[&LEFT].cells), (1, 3));
             assert_eq!(read(&call(run, Call::Take)), [LEFT], "it is thrown away");
         });
         assert_eq!(list.entries.len(), 5);

@@ -15,7 +15,8 @@ ghost use Rattle.machine.specs.Values.{sameKey};
 ghost use Rattle.machine.specs.Counting.{inside};
 ghost use Rattle.machine.specs.Chains.{link, walk};
 ghost use Rattle.machine.specs.Layout.{recAt, recChain};
-ghost use Rattle.soundness.specs.Walked.{Room, At, Chained, keyAt, unlike, piecesAt, recordPieces, readable, recordsFit, counted};
+ghost use Rattle.soundness.specs.Walked.{Room, At, Chained, keyAt, unlike, piecesAt};
+ghost use Rattle.soundness.specs.Walked.{recordPieces, readable, recordsFit, counted};
 
 // A byte of the record x.
 pub fn byte(s: &[u8], cells: usize, x: usize, field: usize) -> usize

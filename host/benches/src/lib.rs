@@ -20,6 +20,9 @@ pub const KEY: [u8; 32] = [1; 32];
 /// The key of the node that it talks with.
 pub const PEER_KEY: [u8; 32] = [2; 32];
 
+/// The key of another node that sends to it: one source alone may not fill a store.
+pub const OTHER_KEY: [u8; 32] = [3; 32];
+
 /// A message in which each piece is different.
 pub fn message(length: usize) -> Vec<u8> {
     (0..length).map(|i| (i * 31 + i / 251 + i / PIECE) as u8).collect()

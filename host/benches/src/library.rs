@@ -4,7 +4,7 @@ use oracle::call::{Id, Packet};
 use socketlemon::{Address, Arrival, Calendar, Push, Refusal, Role, Rules, Run, Store, Wake, LONGEST_RUN};
 
 use crate::scene::{Scene, Step};
-use crate::{KEY, PEER_KEY};
+use crate::{KEY, OTHER_KEY, PEER_KEY};
 
 /// Both stores, and the host's run buffer.
 #[derive(Clone)]
@@ -35,13 +35,20 @@ impl Node {
     /// The node of a scene, before its packet.
     pub fn of(scene: &Scene, cells: usize) -> Self {
         let mut node = Self::new(KEY, PEER_KEY, cells);
+        let other = Address::of_key(&OTHER_KEY).expect("an address");
         for step in &scene.steps {
             match step {
                 Step::Push(id, data) => drop(node.push(*id, data)),
-                Step::Packet(frame) => drop(node.packet(frame).expect("a step is not refused")),
+                Step::Packet(frame) => node.arrives(frame, node.peer),
+                Step::Other(frame) => node.arrives(frame, other),
             }
         }
         node
+    }
+
+    /// A step of a scene.
+    fn arrives(&mut self, frame: &[u8], from: Address) {
+        self.packet_from(frame, from).expect("a step is not refused");
     }
 
     /// The bytes of each store.
@@ -71,8 +78,11 @@ impl Node {
 
     /// Hands over a frame of the peer; gives what is to be sent, and whether the senders should wake.
     pub fn packet(&mut self, frame: &[u8]) -> Result<(Run<'_>, bool), Refusal> {
-        let (from, to) = (self.peer, self.address);
-        let arrival = Arrival { frame, from, to, rules: &self.rules, known: true };
+        self.packet_from(frame, self.peer)
+    }
+
+    fn packet_from(&mut self, frame: &[u8], from: Address) -> Result<(Run<'_>, bool), Refusal> {
+        let arrival = Arrival { frame, from, to: self.address, rules: &self.rules, known: true };
         let answer = self.receive.packet(&mut self.send, &arrival, &mut self.run)?;
         Ok((answer.run, answer.wake))
     }

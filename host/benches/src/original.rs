@@ -16,7 +16,7 @@ use oracle::message::MessageStack;
 use tokio::runtime::{Builder, Runtime};
 
 use crate::scene::{Scene, Step};
-use crate::{KEY, PEER_KEY};
+use crate::{KEY, OTHER_KEY, PEER_KEY};
 
 /// Turns of the runtime after which every task waits.
 const TURNS: usize = 8;
@@ -109,6 +109,7 @@ impl Node {
             match step {
                 Step::Push(id, data) => node.push(*id, data.clone()),
                 Step::Packet(frame) => drop(node.packet(frame)),
+                Step::Other(frame) => drop(node.other(frame)),
             }
         }
         node.sent();
@@ -140,8 +141,17 @@ impl Node {
         self.packets(std::iter::once(frame))
     }
 
+    /// Hands over a frame of the other node.
+    fn other(&self, frame: &[u8]) -> Duration {
+        self.packets_from(std::iter::once(frame), address(OTHER_KEY))
+    }
+
     /// Hands over frames of the peer, filled up with zeros; gives how long the handler took for all of them.
     pub fn packets<'a>(&self, frames: impl DoubleEndedIterator<Item = &'a [u8]>) -> Duration {
+        self.packets_from(frames, self.peer)
+    }
+
+    fn packets_from<'a>(&self, frames: impl DoubleEndedIterator<Item = &'a [u8]>, from: Address) -> Duration {
         let waker = {
             let mut shared = self.feed.lock();
             shared.spent = Duration::ZERO;
@@ -149,7 +159,7 @@ impl Node {
                 let mut buffer = PacketBuffer::new();
                 buffer.buffer_mut()[..frame.len()].copy_from_slice(frame);
                 buffer.set_size(FRAME);
-                (buffer, ip(self.peer), ip(self.address))
+                (buffer, ip(from), ip(self.address))
             }));
             shared.waker.take()
         };

@@ -11,8 +11,10 @@ use crate::{message, LONGEST, PIECE};
 pub enum Step {
     /// A message to be sent.
     Push(Id, Vec<u8>),
-    /// A frame that arrives.
+    /// A frame that arrives from the peer.
     Packet(Vec<u8>),
+    /// A frame that arrives from the other node.
+    Other(Vec<u8>),
 }
 
 /// A packet call: the steps before it, the frame that it is about, the refusal that it meets, and whether each byte
@@ -107,12 +109,12 @@ fn spread(messages: usize, pieces: usize) -> impl Iterator<Item = usize> {
     })
 }
 
-/// Messages that arrive, with so many pieces in all.
+/// Messages that arrive, with so many pieces in all: every second one is the other node's.
 fn receive(messages: usize, pieces: usize) -> Vec<Step> {
     let one = |(number, count)| {
         let id = arriving(number);
-        let pieces = (0..count).map(move |index| Step::Packet(chunk(id, index)));
-        std::iter::once(Step::Packet(init(id))).chain(pieces)
+        let from = if number % 2 == 0 { Step::Packet } else { Step::Other };
+        std::iter::once(init(id)).chain((0..count).map(move |index| chunk(id, index))).map(from)
     };
     spread(messages, pieces).enumerate().flat_map(one).collect()
 }

@@ -1,5 +1,5 @@
--- Bytes behind those that a packet needs are not read: with them or without, the call answers the same and leaves the same. So the original, whose frames
--- have 1,400 bytes, is handed a frame filled up with zeros. Assumes nothing.
+-- Bytes behind those that a packet needs are not read: with them or without, the call answers the same and leaves the same. So nothing is lost where the
+-- original is handed a frame filled up with zeros. Assumes nothing.
 use Prim.Native.Nat.{ℕ, _+_, _-_, _≤_, min}
 use native.Mathlib.Omega.{arith}
 use mathlib.Core.Path.{_≡_, refl, sym, ap, _∙_}

@@ -63,10 +63,11 @@ pub struct SendArgs {
     /// The survey's topic
     #[arg(long, default_value = "survey", value_parser = topic)]
     pub topic: String,
-    /// The tablet's key file; made at first use
+    /// The tablet's key file; the command key makes one
     #[arg(long, value_name = "FILE", default_value = "tablet.key")]
     pub key: PathBuf,
-    /// After how many seconds the tablet gives up, also while the hours are closed
+    /// After how many seconds the tablet gives up, also while the hours are closed; the time in the office's line
+    /// does not count
     #[arg(long, value_name = "SECONDS", default_value_t = 300, value_parser = clap::value_parser!(u64).range(1..=2_592_000))]
     pub deadline: u64,
     /// The hours in which surveys may leave; without it, always.
@@ -87,13 +88,14 @@ pub struct ListenArgs {
     /// The folder for the surveys; made if it is not there
     #[arg(long, value_name = "DIR")]
     pub out: PathBuf,
-    /// The keys of the tablets whose surveys are taken: a file with a key in hexadecimal on each line
+    /// The keys of the tablets whose surveys are taken: a file with a key on each line, as the command key prints it;
+    /// read again when it changes, and at SIGHUP
     #[arg(long, value_name = "FILE")]
     pub known: PathBuf,
     /// The socket to listen on
     #[arg(long, value_name = "ADDR", default_value = "[::1]:7700")]
     pub listen: SocketAddrV6,
-    /// The office's key file; made at first use
+    /// The office's key file; the command key makes one
     #[arg(long, value_name = "FILE", default_value = "office.key")]
     pub key: PathBuf,
     /// The file that keeps what has arrived so far [default: office.store in the folder for the surveys]
@@ -102,7 +104,7 @@ pub struct ListenArgs {
     /// A topic that is taken, and from which subnets; can be given again. All other topics are rejected
     #[arg(long, value_name = "TOPIC[=SUBNET,..]", default_value = "survey=400::/7", value_parser = allowed)]
     pub allow: Vec<Allowed>,
-    /// After how many seconds of silence a message that is not whole is dropped
+    /// After how many seconds of silence a message that is not whole is dropped; after 10 if another one needs its room
     #[arg(long, value_name = "SECONDS", default_value_t = 300, value_parser = clap::value_parser!(u64).range(1..=86_400))]
     pub forget: u64,
     /// End after this many surveys, when the link is quiet

@@ -16,6 +16,7 @@ const INIT: u8 = 0x80;
 const DONE: u8 = 0x40;
 const ABORTED: u8 = 0x20;
 const CHUNK: u8 = 0x10;
+const READ: u8 = 0x08;
 const ACK: u8 = 0x01;
 
 /// The bytes of a done, and of its acknowledgement.
@@ -62,6 +63,8 @@ pub enum Dropped {
     TooLong,
     /// It goes to another address.
     NotOurs,
+    /// The key of its from-address is not known.
+    Stranger,
 }
 
 impl fmt::Display for Dropped {
@@ -70,6 +73,7 @@ impl fmt::Display for Dropped {
             Dropped::TooShort => "too short",
             Dropped::TooLong => "too long",
             Dropped::NotOurs => "to another address",
+            Dropped::Stranger => "of strangers",
         })
     }
 }
@@ -115,6 +119,25 @@ impl Arrived {
     /// The id of the message that it is about, if it came.
     pub fn id(&self) -> Option<Id> {
         self.frame.get(..FLAGS)?.try_into().ok().map(Id)
+    }
+
+    /// What it brings, if it is no acknowledgement.
+    pub fn content(&self) -> Content {
+        match self.frame.get(FLAGS) {
+            Some(flags) if flags & ACK != 0 => Content::Other,
+            _ => Content::of(&self.frame),
+        }
+    }
+
+    /// The first number behind the header: an init's length, or a chunk's index.
+    pub fn number(&self) -> Option<u64> {
+        self.frame.get(HEADER..HEADER + 8)?.try_into().ok().map(u64::from_be_bytes)
+    }
+
+    /// Whether its sender gives a message up.
+    pub fn is_aborted(&self) -> bool {
+        let others = INIT | CHUNK | DONE | READ | ACK;
+        self.frame.get(FLAGS).map_or(false, |flags| flags & (others | ABORTED) == ABORTED)
     }
 
     /// Whether it is a done, without ack and with all its bytes.

@@ -6,22 +6,31 @@
 #![forbid(unsafe_code)]
 #![warn(missing_docs)]
 
+pub mod admission;
 pub mod classroom;
 pub mod cli;
 pub mod counts;
+pub mod crc;
 pub mod datagram;
 pub mod failure;
 pub mod faults;
 pub mod files;
+pub mod hex;
 pub mod hours;
 pub mod kept;
 pub mod keys;
+pub mod line;
+pub mod lock;
+pub mod notice;
 pub mod office;
 pub mod peers;
 pub mod port;
 pub mod progress;
 pub mod random;
 pub mod receipts;
+pub mod signals;
 pub mod silence;
+pub mod strangers;
 pub mod surveys;
 pub mod tablet;
+pub mod waiting;

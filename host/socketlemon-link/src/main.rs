@@ -12,10 +12,12 @@ use socketlemon_link::cli::{
 };
 use socketlemon_link::failure::Failure;
 use socketlemon_link::hours;
-use socketlemon_link::keys::{Key, Known};
+use socketlemon_link::keys::Key;
 use socketlemon_link::office::{Listen, Office};
+use socketlemon_link::signals::Signals;
 use socketlemon_link::tablet::{self, Ended, Send};
 use std::io::Write;
+use std::path::Path;
 use std::process::ExitCode;
 use std::time::{Duration, Instant, SystemTime};
 
@@ -25,9 +27,7 @@ fn main() -> ExitCode {
         Side::Tablet(TabletCommand::Send(args)) => send(args),
         Side::Office(OfficeCommand::Listen(args)) => listen(args),
         Side::Classroom(args) => classroom(args),
-        Side::Key { file } => {
-            Key::of_file(&file).map(|key| say(&format!("key {key}\naddress {}", key.address())))
-        }
+        Side::Key { file } => key(&file),
     };
     match done {
         Ok(()) => ExitCode::SUCCESS,
@@ -49,6 +49,16 @@ fn show(text: &str) {
     let _ = write!(out, "{text}").and_then(|()| out.flush());
 }
 
+/// Shows the key of a file, and says if it was made.
+fn key(file: &Path) -> Result<(), Failure> {
+    let (key, is_new) = Key::of_file_or_new(file)?;
+    if is_new {
+        let _ = writeln!(std::io::stderr(), "a new key is in {}", file.display());
+    }
+    say(&format!("key {key}\naddress {}", key.address()));
+    Ok(())
+}
+
 fn send(args: SendArgs) -> Result<(), Failure> {
     let told = Send {
         survey: tablet::read_survey(&args.file)?,
@@ -60,6 +70,7 @@ fn send(args: SendArgs) -> Result<(), Failure> {
         deadline: Duration::from_secs(args.deadline),
         now: SystemTime::now,
         odds: args.odds.into(),
+        signals: Signals::of_tablet()?,
     };
     let start = Instant::now();
     let ended = match tablet::send(&told)? {
@@ -72,24 +83,21 @@ fn send(args: SendArgs) -> Result<(), Failure> {
 }
 
 fn listen(args: ListenArgs) -> Result<(), Failure> {
+    let key = Key::of_file(&args.key)?;
     let told = Listen {
         store: args.store.unwrap_or_else(|| args.out.join("office.store")),
         out: args.out,
         listen: args.listen,
-        key: Key::of_file(&args.key)?,
-        known: Known::of_file(&args.known)?,
+        key,
+        known: args.known,
         rules: cli::rules(&args.allow).map_err(|error| Failure::new(format!("wrong --allow: {error}")))?,
         forget: Duration::from_secs(args.forget),
         count: args.count,
         odds: args.odds.into(),
+        signals: Signals::of_office()?,
     };
     let mut office = Office::open(&told)?;
-    say(&format!(
-        "office {} listens on {}, keys known: {}",
-        told.key.address(),
-        office.at()?,
-        told.known.count()
-    ));
+    say(&format!("office {} listens on {}, keys known: {}", told.key.address(), office.at()?, office.keys()));
     match office.arriving() {
         0 => {}
         n => say(&format!("messages that go on from before: {n}")),

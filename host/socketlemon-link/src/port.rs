@@ -37,7 +37,12 @@ impl Port {
 
     /// Sends a packet. What cannot be sent counts as lost, as on any link.
     pub fn send(&mut self, packet: &Packet<'_>, to: SocketAddr) {
-        for (bytes, to) in self.faults.pass((datagram::write(packet), to)) {
+        self.send_datagram(datagram::write(packet), to);
+    }
+
+    /// Sends a datagram that was written before.
+    pub fn send_datagram(&mut self, bytes: Vec<u8>, to: SocketAddr) {
+        for (bytes, to) in self.faults.pass((bytes, to)) {
             self.put(&bytes, to);
         }
     }
@@ -64,10 +69,35 @@ impl Port {
         until: Instant,
         buffer: &'b mut [u8; datagram::MOST + 1],
     ) -> Result<Option<(&'b [u8], SocketAddr)>, Failure> {
-        let failed = |error: io::Error| Failure::new(format!("cannot receive datagrams: {error}"));
         // a wait of 0 would mean to wait for ever
         let wait = until.saturating_duration_since(Instant::now()).max(Duration::from_millis(1));
         self.socket.set_read_timeout(Some(wait)).map_err(failed)?;
+        self.read(buffer)
+    }
+
+    /// Waits for a datagram, but not beyond a time, and takes those that are there beside it, up to so many in all.
+    pub fn gather(&self, until: Instant, most: usize) -> Result<Vec<(Vec<u8>, SocketAddr)>, Failure> {
+        let mut buffer = [0; datagram::MOST + 1];
+        let owned = |(bytes, from): (&[u8], SocketAddr)| (bytes.to_vec(), from);
+        let mut all: Vec<_> = self.receive(until, &mut buffer)?.map(owned).into_iter().collect();
+        if all.is_empty() {
+            return Ok(all);
+        }
+        self.socket.set_nonblocking(true).map_err(failed)?;
+        while all.len() < most {
+            match self.read(&mut buffer)? {
+                Some(next) => all.push(owned(next)),
+                None => break,
+            }
+        }
+        self.socket.set_nonblocking(false).map_err(failed)?;
+        Ok(all)
+    }
+
+    fn read<'b>(
+        &self,
+        buffer: &'b mut [u8; datagram::MOST + 1],
+    ) -> Result<Option<(&'b [u8], SocketAddr)>, Failure> {
         match self.socket.recv_from(buffer) {
             Ok((length, from)) => Ok(Some((&buffer[..length], from))),
             Err(error) => match error.kind() {
@@ -78,4 +108,8 @@ impl Port {
             },
         }
     }
+}
+
+fn failed(error: io::Error) -> Failure {
+    Failure::new(format!("cannot receive datagrams: {error}"))
 }

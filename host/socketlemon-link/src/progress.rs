@@ -7,7 +7,7 @@ use std::io::Write;
 /// The progress of one survey, on the error output.
 pub struct Progress {
     pieces: u64,
-    shown: Option<(&'static str, u64)>,
+    shown: Option<(String, u64)>,
     bar: Option<ProgressBar>,
 }
 
@@ -27,22 +27,23 @@ impl Progress {
         Progress { pieces, shown: None, bar }
     }
 
-    /// Shows a report, if it tells something new, and whether the hours are open.
-    pub fn show(&mut self, report: &Report, is_open: bool) {
+    /// Shows a report, if it tells something new, whether the hours are open, and what the office lets the tablet wait for.
+    pub fn show(&mut self, report: &Report, is_open: bool, waiting: Option<String>) {
         let acked = match report.state {
             State::Init | State::Aborted => 0,
             State::InProgress => u64::from(report.acked),
             State::Received | State::Read => self.pieces,
         };
-        let words = words(report.state, is_open);
-        if self.shown == Some((words, acked)) {
+        let waiting = waiting.filter(|_| report.state == State::Init && is_open);
+        let shown = (waiting.unwrap_or_else(|| words(report.state, is_open).to_owned()), acked);
+        if self.shown.as_ref() == Some(&shown) {
             return;
         }
-        self.shown = Some((words, acked));
+        let words = &self.shown.insert(shown).0;
         match &self.bar {
             Some(bar) => {
                 bar.set_position(acked);
-                bar.set_message(words);
+                bar.set_message(words.clone());
             }
             None => line(&format!("{acked} of {} pieces acknowledged, {words}", self.pieces)),
         }

@@ -1,14 +1,19 @@
 //! The tablet: sends one survey and waits until the office has it.
 
+mod why;
+
 use crate::counts::Counts;
 use crate::datagram::{Arrived, MOST};
 use crate::failure::Failure;
 use crate::faults::Odds;
 use crate::hours;
 use crate::keys::Key;
+use crate::notice::Notice;
 use crate::port::Port;
 use crate::progress::Progress;
 use crate::random;
+use crate::signals::Signals;
+use crate::waiting::Waiting;
 use socketlemon::{
     Address, Arrival, Calendar, Id, Push, Report, Role, Rules, Run, State, Store, Wake, LONGEST_RUN,
     MOST_BYTES, PACKET_RUN, PIECE,
@@ -27,6 +32,10 @@ const READ_WAIT: Duration = Duration::from_secs(2);
 
 /// After how long without an answer the user is told.
 const FIRST_WORD: Duration = Duration::from_secs(3);
+
+/// How often the office is told that the tablet gives up, and the time in between.
+const ABORTS: u32 = 3;
+const BETWEEN_ABORTS: Duration = Duration::from_millis(30);
 
 /// What the tablet is told.
 #[derive(Clone, Debug)]
@@ -49,6 +58,8 @@ pub struct Send {
     pub now: fn() -> SystemTime,
     /// How bad the link is, in the direction of the office.
     pub odds: Odds,
+    /// What the system tells it.
+    pub signals: Signals,
 }
 
 /// How a survey has ended well.
@@ -98,6 +109,10 @@ struct Tablet<'a> {
     was_open: bool,
     /// Since when the survey is received.
     received: Option<Instant>,
+    /// What the office has told about its line.
+    waiting: Waiting,
+    /// Whether the office has told that it does not know the key.
+    is_stranger: bool,
 }
 
 /// Sends a survey and waits for its receipt.
@@ -130,6 +145,8 @@ impl Tablet<'_> {
             was_closed: false,
             was_open: false,
             received: None,
+            waiting: Waiting::default(),
+            is_stranger: false,
         })
     }
 
@@ -143,6 +160,9 @@ impl Tablet<'_> {
             if let Some(ended) = self.ended(now, progress)? {
                 return Ok(ended);
             }
+            if self.told.signals.stop() {
+                return self.stopped(progress);
+            }
             self.tell_silence(now, progress);
             if now >= next_send {
                 next_send = now + SEND_WAKE;
@@ -150,29 +170,72 @@ impl Tablet<'_> {
                 self.wake_send()?;
             }
             if let Some((datagram, _)) = self.port.receive(next_send, &mut buffer)? {
-                self.datagram(datagram)?;
+                self.datagram(datagram, progress)?;
             }
         }
     }
 
     /// How the survey has ended, if it has. Not to have arrived at the deadline is a failure.
     fn ended(&mut self, now: Instant, progress: &mut Progress) -> Result<Option<Ended>, Failure> {
-        let report = self.report()?;
-        progress.show(&report, self.open.is_some());
+        let report = self.show(progress)?;
         match report.state {
             State::Read => Ok(Some(Ended::Read)),
             State::Received => {
                 let since = *self.received.get_or_insert(now);
                 Ok((now >= since + READ_WAIT).then_some(Ended::Received))
             }
-            _ if now >= self.start + self.told.deadline => {
-                self.wake(Wake::Deadline)?;
-                self.port.release();
-                progress.show(&self.report()?, self.open.is_some());
+            _ if now >= self.end() => {
+                self.give_up()?;
+                self.show(progress)?;
                 Err(self.why_not(&report))
             }
             _ => Ok(None),
         }
+    }
+
+    /// When the tablet gives up. The time in the office's line does not count.
+    fn end(&self) -> Instant {
+        self.start + self.told.deadline + self.waiting.waited()
+    }
+
+    /// Shows how far the survey is.
+    fn show(&mut self, progress: &mut Progress) -> Result<Report, Failure> {
+        let report = self.report()?;
+        if report.state != State::Init {
+            self.waiting.over();
+        }
+        progress.show(&report, self.open.is_some(), self.waiting.words());
+        Ok(report)
+    }
+
+    /// Lets the deadline pass. The office is told so more than once, for a packet may be lost, and what it holds of the survey would wait in vain.
+    fn give_up(&mut self) -> Result<(), Failure> {
+        let mut run = [0; LONGEST_RUN];
+        let out = self.woken(Wake::Deadline, &mut run)?;
+        for time in 0..ABORTS {
+            if time > 0 {
+                std::thread::sleep(BETWEEN_ABORTS);
+            }
+            put(&mut self.port, out, self.told.to);
+            self.port.release();
+        }
+        Ok(())
+    }
+
+    /// Ends because a signal says so.
+    fn stopped(&mut self, progress: &mut Progress) -> Result<Ended, Failure> {
+        let report = self.report()?;
+        match report.state {
+            State::Read => return Ok(Ended::Read),
+            State::Received => return Ok(Ended::Received),
+            _ => self.give_up()?,
+        }
+        self.show(progress)?;
+        let all = self.pieces();
+        Err(Failure::new(format!(
+            "stopped by a signal: {} of {all} pieces were acknowledged, and the office was told to drop them",
+            report.acked
+        )))
     }
 
     /// Notes whether the hours are open. Tells the user when they close, and starts again when they open.
@@ -186,7 +249,7 @@ impl Tablet<'_> {
             self.start_again()?;
         }
         if !is_open && !was_closed && self.received.is_none() {
-            let left = (self.start + self.told.deadline).saturating_duration_since(now);
+            let left = self.end().saturating_duration_since(now);
             progress.say(&hours::closed(&self.told.hours, unix_ms, left));
         }
         Ok(())
@@ -200,6 +263,11 @@ impl Tablet<'_> {
         if report.state != State::InProgress || (all > 0 && usize::from(report.acked) == all) {
             return Ok(());
         }
+        self.start_anew()
+    }
+
+    /// Announces the survey under another id.
+    fn start_anew(&mut self) -> Result<(), Failure> {
         // the first tells the office, the second makes room
         self.wake(Wake::Deadline)?;
         self.wake(Wake::Deadline)?;
@@ -259,19 +327,23 @@ impl Tablet<'_> {
 
     fn wake(&mut self, wake: Wake<'_>) -> Result<(), Failure> {
         let mut run = [0; LONGEST_RUN];
-        let out = self
-            .send
-            .wake(wake, self.id, &mut run)
-            .map_err(|refusal| Failure::new(format!("the survey cannot be woken: {refusal}")))?;
+        let out = self.woken(wake, &mut run)?;
         put(&mut self.port, out, self.told.to);
         Ok(())
+    }
+
+    /// What a wake wants to be sent.
+    fn woken<'r>(&mut self, wake: Wake<'_>, run: &'r mut [u8]) -> Result<Run<'r>, Failure> {
+        self.send
+            .wake(wake, self.id, run)
+            .map_err(|refusal| Failure::new(format!("the survey cannot be woken: {refusal}")))
     }
 
     fn report(&self) -> Result<Report, Failure> {
         self.send.report(self.id).map_err(|refusal| Failure::new(format!("the survey is lost: {refusal}")))
     }
 
-    fn datagram(&mut self, datagram: &[u8]) -> Result<(), Failure> {
+    fn datagram(&mut self, datagram: &[u8], progress: &Progress) -> Result<(), Failure> {
         let arrived = match Arrived::read(datagram, self.own) {
             Ok(arrived) => arrived,
             Err(reason) => {
@@ -279,6 +351,12 @@ impl Tablet<'_> {
                 return Ok(());
             }
         };
+        if let Some((id, notice)) = Notice::read(&arrived.frame) {
+            return match (id, arrived.from) == (self.id, self.told.office) {
+                true => self.notice(notice, progress),
+                false => Ok(()),
+            };
+        }
         let arrival = Arrival {
             frame: &arrived.frame,
             from: arrived.from,
@@ -290,6 +368,7 @@ impl Tablet<'_> {
         match self.nothing_to_receive.packet(&mut self.send, &arrival, &mut run) {
             Ok(answer) => {
                 self.answers += 1;
+                self.is_stranger = false;
                 if answer.wake {
                     self.wake_send()?;
                 }
@@ -299,36 +378,25 @@ impl Tablet<'_> {
         Ok(())
     }
 
-    /// Why the survey did not arrive, as far as the tablet can tell.
-    fn why_not(&self, report: &Report) -> Failure {
-        let Send { to, topic, deadline, .. } = self.told;
-        let seconds = deadline.as_secs_f64();
-        let all = self.pieces();
-        let mut words = match report.state {
-            _ if !self.was_open => {
-                format!("the hours did not open within {seconds} s, so nothing of the survey was sent")
+    /// Does as the office has told about the survey.
+    fn notice(&mut self, notice: Notice, progress: &Progress) -> Result<(), Failure> {
+        self.answers += 1;
+        match (notice, self.report()?.state) {
+            (Notice::Wait(before), State::Init) => self.waiting.told(before, Instant::now()),
+            (Notice::Gone, State::InProgress) => {
+                progress.say("the office no longer has the survey; it is sent anew");
+                self.start_anew()?;
             }
-            State::Init => format!(
-                "nobody answered at {to} within {seconds} s: is the office there, is {} its address, and does it take the topic {topic:?} from {}?",
-                self.told.office, self.own
-            ),
-            _ if usize::from(report.acked) == all => format!(
-                "the office acknowledged all {all} pieces, but sent no receipt within {seconds} s: does it know the key of {}? \
-                 The survey may have arrived all the same",
-                self.own
-            ),
-            _ => format!("the office stopped answering: {} of {all} pieces were acknowledged within {seconds} s", report.acked),
-        };
-        if self.was_open && self.open.is_none() {
-            words.push_str(" (the hours had closed)");
+            (Notice::Stranger, State::Init | State::InProgress) if !self.is_stranger => {
+                self.is_stranger = true;
+                progress.say(&format!(
+                    "the office does not know the key of {} yet; its list wants the line that the command key prints",
+                    self.own
+                ));
+            }
+            _ => {}
         }
-        if let Some(trouble) = self.port.trouble() {
-            words.push_str(&format!(" (the last datagram could not be sent: {trouble})"));
-        }
-        if self.counts != Counts::default() {
-            words.push_str(&format!(" ({})", self.counts));
-        }
-        Failure::new(words)
+        Ok(())
     }
 }
 

@@ -2,10 +2,11 @@
 
 mod common;
 
-use common::{assert_fails, introduce, link, run, survey, tablet, Folder, Office};
+use common::{assert_fails, introduce, key, link, run, survey, tablet, Folder, Office};
 use socketlemon::{Calendar, Offset, Weekday};
 use socketlemon_link::faults::Odds;
 use socketlemon_link::keys::Key;
+use socketlemon_link::signals::Signals;
 use socketlemon_link::tablet::{send, Ended, Send};
 use std::net::UdpSocket;
 use std::process::Stdio;
@@ -57,6 +58,7 @@ fn none_leaves_outside() {
 /// The flags of the packets that a tablet sends to somebody who does not answer, up to its deadline.
 fn sent_in_vain(hours: &[u8]) -> Vec<u8> {
     let folder = Folder::new();
+    key(&folder, "tablet.key");
     folder.file("hours", hours);
     folder.file("survey", &survey(1_300, 0));
     let socket = UdpSocket::bind("[::1]:0").expect("a socket");
@@ -83,17 +85,18 @@ fn sent_in_vain(hours: &[u8]) -> Vec<u8> {
     std::iter::from_fn(next).collect()
 }
 
-/// The push sends its init, and the deadline its aborted packet; hours stop neither.
+/// The push sends its init, and the deadline its aborted packet, more than once; hours stop neither.
 #[test]
 fn outside_hours_only_the_first_init_leaves() {
-    assert_eq!(sent_in_vain(SHUT), [INIT, ABORTED]);
+    assert_eq!(sent_in_vain(SHUT), [INIT, ABORTED, ABORTED, ABORTED]);
     let open = sent_in_vain(OPEN);
-    assert!(open.len() > 4 && open[..open.len() - 1].iter().all(|flags| *flags == INIT), "{open:?}");
+    assert!(open.len() > 6 && open[..open.len() - 3].iter().all(|flags| *flags == INIT), "{open:?}");
 }
 
 #[test]
 fn a_deadline_before_the_opening_is_told_at_once() {
     let folder = Folder::new();
+    key(&folder, "tablet.key");
     folder.file("survey", &survey(1_300, 0));
     // it opens for a minute, some three days from now
     let unix_ms = SystemTime::now().duration_since(UNIX_EPOCH).expect("a time after 1970").as_millis() as u64;
@@ -145,6 +148,7 @@ fn a_survey_leaves_as_soon_as_the_hours_open() {
         hours: Calendar::closed().open(Weekday::Monday, "07:30-17:00".parse().expect("a window")),
         now: before_monday_morning,
         odds: Odds { lose: 0.0, repeat: 0.0, reorder: 0.0, seed: 1 },
+        signals: Signals::default(),
     };
     let start = std::time::Instant::now();
     assert_eq!(send(&told), Ok(Ended::Read));

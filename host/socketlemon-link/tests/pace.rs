@@ -2,7 +2,7 @@
 
 mod common;
 
-use common::{link, survey, Folder};
+use common::{key, link, survey, Folder};
 use socketlemon::{Address, Packet, MOST_BYTES};
 use socketlemon_link::datagram::{self, Arrived};
 use std::net::{SocketAddr, UdpSocket};
@@ -29,6 +29,7 @@ impl Tablet {
         let socket = UdpSocket::bind("[::1]:0").expect("a socket");
         socket.set_read_timeout(Some(Duration::from_secs(60))).expect("a time to wait");
         let to = socket.local_addr().expect("its address").to_string();
+        key(folder, "tablet.key");
         folder.file("survey", &survey(MOST_BYTES, 0));
         let words = ["tablet", "send", "survey", "--to", &to, "--office", "404:404:404:404:404:404:404:404"];
         let child =

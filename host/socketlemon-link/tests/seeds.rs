@@ -123,7 +123,7 @@ impl Office {
     fn accepted(&mut self, arrived: &Arrived, run: &[u8]) {
         self.side.put_all(run);
         self.has_piece |= arrived.frame[8] == CHUNK;
-        self.receipts.keep(arrived);
+        self.receipts.keep(arrived, 0);
         if arrived.is_done() {
             self.has_piece = false;
             let (taken, _) = self.side.receive.take(&mut [0; PACKET_RUN]).expect("a survey");

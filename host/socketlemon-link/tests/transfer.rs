@@ -90,18 +90,28 @@ fn an_office_goes_on_after_a_restart() {
     lines.for_each(drop);
     assert_eq!(sender.wait().expect("its status").code(), Some(0));
     assert!(folder.surveys() == [data]);
-    let names: Vec<_> = std::fs::read_dir(folder.path("out")).expect("the folder").collect();
-    assert_eq!(names.len(), 2, "the survey and the store, and nothing half written: {names:?}");
+    let names = || {
+        std::fs::read_dir(folder.path("out"))
+            .expect("the folder")
+            .map(|entry| entry.expect("an entry").path())
+    };
+    let half_written = names().any(|path| path.extension().map_or(true, |extension| extension == "part"));
+    assert!(names().count() == 4 && !half_written, "the survey, its sum, the store and its lock");
 }
 
 #[test]
-fn an_unknown_tablet_gets_no_receipt() {
+fn an_unknown_tablet_is_told_so() {
     let folder = Folder::new();
+    introduce(&folder);
     folder.file("known", b"# nobody yet\n\n");
     let mut office = Office::start(&folder, "[::1]:0", &[]);
     let file = folder.file("survey", &survey(1_300, 0));
     let send = tablet(&folder, &office, &file, &["--deadline", "1"]);
-    assert_fails(send, 1, &["acknowledged all 1 pieces, but sent no receipt within 1 s", "know the key"]);
+    assert_fails(
+        send,
+        1,
+        &["the office does not know the key of ", "did not know the key of ", " within 1 s"],
+    );
     assert!(office.runs());
     assert!(folder.surveys().is_empty());
 }

@@ -1,10 +1,11 @@
 // A cell of a store, which holds one piece.
 
 ghost use mathlib.Core.Path.{_≡_};
-ghost use Prim.Native.Nat.{_<_, _≤_};
+ghost use Prim.Native.Nat.{_+_, _<_, _≤_};
 ghost use lib.ListN.{length};
 ghost use Rattle.machine.specs.Limits.{cellBytes, mostCells};
-ghost use Rattle.machine.specs.Layout.{cellOff, sizeWidth, sizeAt, numAt, cellOf};
+ghost use Rattle.machine.specs.Layout.{cellOff, sizeWidth, sizeAt, bytesAt, numAt, cellOf};
+ghost use Rattle.machine.specs.Rows.{zeroFrom};
 ghost use Rattle.machine.specs.Sound.{cellFits};
 ghost use Rattle.rows.specs.Asked.{pieceFits};
 
@@ -74,6 +75,23 @@ pub fn sending_fits(row: &[u8], role: u64) -> bool
     (state <= ACKED) & ((state == SENT) | (stamp == 0))
 }
 
+// Where a piece that was cut from a message ends, and what is left of its cell.
+const CUT_END: usize = Cell::PIECE + crate::message::CUT_BYTES;
+
+const CUT_REST: usize = BYTES - CUT_END;
+
+// Whether what follows a piece of n bytes is zero. Nearly every piece was cut, and of such a one the compiler knows how long
+// its loop is.
+fn ends(row: &[u8], n: usize) -> bool
+    requires { ⌜ (length (now row) ≡ cellBytes) × (bytesAt + n ≤ cellBytes) ⌝ }
+    ensures { λ r. ⌜ r ≡ zeroFrom cellBytes (bytesAt + n) (now (row .entry)) ⌝ }
+{
+    if n == crate::message::CUT_BYTES {
+        return octets::zero_part(row, CUT_END, CUT_REST);
+    }
+    octets::zero_part(row, Cell::PIECE + n, BYTES - (Cell::PIECE + n))
+}
+
 // Whether the row is that of a cell with a piece.
 pub fn fits(row: &[u8], role: u64) -> bool
     requires { ⌜ length (now row) ≡ cellBytes ⌝ }
@@ -84,7 +102,7 @@ pub fn fits(row: &[u8], role: u64) -> bool
         return false;
     }
     let gap = octets::zero_part(row, Cell::GAP, Cell::PIECE - Cell::GAP);
-    let rest = octets::zero_part(row, Cell::PIECE + n, BYTES - (Cell::PIECE + n));
+    let rest = ends(row, n);
     let sending = sending_fits(row, role);
     gap & rest & sending
 }

@@ -14,10 +14,9 @@ unfolding pieceFits
 returns-2 c =
     let zeros = c .before .before in
     let size = zeros .before .before .size in
-    rw (zeros .zero-part .ensures, c .before .zero-part2 .ensures, c .sending-fits .ensures, ← size .ensures .0, le-leb _ 1364 (zeros .before .if1 .left))
+    rw (zeros .zero-part .ensures, c .before .ends .ensures, c .sending-fits .ensures, ← size .ensures .0, le-leb _ 1364 (zeros .before .if1 .left))
 
 pub fits-spec : {M : Type 1} → statement M
 fits-spec =
     tie.close
-    (tie.spec (λ c κs. search needs) returns (λ c. search needs) (λ c κs. search needs) (λ c. search needs)
-    (λ c. search needs) (λ c. search needs) (λ c κs. search needs) (λ c κs. search needs) returns-2)
+    (tie.spec (λ c κs. search needs) returns (λ c. search needs) (λ c κs. search needs) (λ c κs. search needs) (λ c κs. search needs) returns-2)

@@ -70,6 +70,8 @@ pub const SHORT_FRAME: u64 = 27;
 
 pub const SOURCE_FULL: u64 = 28;
 
+pub const BAD_LENGTHS: u64 = 29;
+
 // A refusal: nothing is sent, nobody wakes.
 pub fn refuse(number: u64) -> Answer
     ensures { λ r. ⌜ r ≡ bare number ⌝ }

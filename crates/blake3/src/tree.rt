@@ -54,7 +54,7 @@ fn join(a: u32, b: u32, c: u32, d: u32) -> u32
 }
 
 // The word at p, which lies in s.
-fn word_in(s: &[u8], p: usize) -> u32
+pub fn word_in(s: &[u8], p: usize) -> u32
     requires { ⌜ p + 4 ≤ length (now s) ⌝ }
     ensures { λ r. ⌜ r ≡ wordAt (now (s .entry)) p ⌝ }
 {
@@ -124,6 +124,14 @@ fn last_node(mode: u32, s: &[u8], t: u64, i: usize, h: [u32; 8]) -> Node
         size: (s.len() - BLOCK * i) as u32,
         flags: flags_at(mode, i) | CHUNK_END,
     }
+}
+
+// The node over s, where that is one block.
+pub fn one_block(key: [u32; 8], mode: u32, s: &[u8]) -> Node
+    requires { ⌜ length (now s) ≤ blockLen ⌝ }
+    ensures { λ r. ⌜ r ≡ node key mode (now (s .entry)) 0 ⌝ }
+{
+    last_node(mode, s, 0, 0, key)
 }
 
 // The node of the chunk s, which is chunk t of the input.

@@ -18,7 +18,8 @@ use Rattle.octets.specs.NumbersLaws.{bytes-be}
 use Rattle.blake3.specs.Words.{add, rotr}
 use Rattle.blake3.specs.Rounds.{half, mix, step, round, rounds}
 use Rattle.blake3.specs.Compression.{start, compress, chaining, rootBlock}
-use Rattle.blake3.specs.Tree.{wordAt, blockAt, flagsAt, before, lastNode, chunkNode, parentNode, level, node, bytes, blake3}
+use Rattle.blake3.specs.Tree.{wordAt, blockAt, flagsAt, before, lastNode, chunkNode, parentNode, level, node}
+use Rattle.blake3.specs.Tree.{bytes, outputBlocks, output, sumBy, plain, blake3}
 use Rattle.blake3.specs.Laws.{length-blake3, blake3-below}
 use Rattle.packet.specs.declared.header.Kind.the-variants.{Chunk}
 use Rattle.packet.specs.Frame.{kindOf, doneFlag, isFrame, isEnough}
@@ -115,7 +116,7 @@ whole = piece0 ++ piece1
 
 -- of a done, its row of refusals
 done-number : (about l a b : List ℕ) → number (heard (done 2 l)) (holding about a b) sender ≡ refusal (doneRow 2 (blake3 l) true (some (pieces about a b)))
-unfolding done id arriving surveyOf part be num same kindOf header donePacket sameKey find kindRow blake3 bytes
+unfolding done id arriving surveyOf part be num same kindOf header donePacket sameKey find kindRow blake3 plain sumBy output outputBlocks bytes
 done-number about l a b = refl
 
 done-right : (about : List ℕ) → number (heard (done 2 whole)) (holding about piece0 piece1) sender ≡ 0
@@ -128,7 +129,7 @@ mixed = init 3 ∷ chunk 0 0 old ∷ another 3 ∷ done 1 new ∷ chunk 0 0 old 
 
 mixed-numbers : numbers (map heard mixed) (fresh roleReceive 2) sender ≡ 0 ∷ 0 ∷ 0 ∷ 14 ∷ 0 ∷ 16 ∷ 0 ∷ 0 ∷ 8 ∷ []
 unfolding numbers old new id topic init another chunk done address part be num same add rotr half mix step round rounds start
-    compress chaining rootBlock wordAt blockAt flagsAt before lastNode chunkNode parentNode level node bytes blake3 kindOf header chunkPacket
+    compress chaining rootBlock wordAt blockAt flagsAt before lastNode chunkNode parentNode level node bytes outputBlocks output sumBy plain blake3 kindOf header chunkPacket
     donePacket sameKey equalInFive rise sizes find swap without refusal putPiece joined initAt chunkAt doneAt kindRow recvStep sendStep tooShort cellsFrom
 mixed-numbers = refl
 

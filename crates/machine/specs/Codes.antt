@@ -89,6 +89,9 @@ shortFrame = 27
 abbrev pub sourceFull : ℕ
 sourceFull = 28
 
+abbrev pub badLengths : ℕ
+badLengths = 29
+
 -- ---- marks, roles, kinds, states
 
 -- a number that means yes or no is yes when it is not 0

@@ -13,7 +13,8 @@ use Rattle.octets.specs.CompareLaws.{same-refl}
 use Rattle.blake3.specs.Words.{add, rotr}
 use Rattle.blake3.specs.Rounds.{half, mix, step, round, rounds}
 use Rattle.blake3.specs.Compression.{start, compress, chaining, rootBlock}
-use Rattle.blake3.specs.Tree.{wordAt, blockAt, flagsAt, before, lastNode, chunkNode, parentNode, level, node, bytes, blake3}
+use Rattle.blake3.specs.Tree.{wordAt, blockAt, flagsAt, before, lastNode, chunkNode, parentNode, level, node}
+use Rattle.blake3.specs.Tree.{bytes, outputBlocks, output, sumBy, plain, blake3}
 use Rattle.packet.specs.Frame.{kindOf}
 use Rattle.packet.specs.Outgoing.{header, chunkPacket, donePacket}
 use Rattle.machine.specs.Codes.{roleReceive}
@@ -102,7 +103,7 @@ mixed-steps : (hear (chunk 0 0 old) (hear (init 3) opened) ≡ m2) × (hear (don
     × (hear (done 1 new) (hear (chunk 0 0 old) m4) ≡ m6) × (hear (done 1 new) (hear (chunk 0 0 new) m6) ≡ m8) × (hear (done 1 new) m8 ≡ m9)
 unfolding old new one m2 m4 m6 m8 m9 id topic init another chunk done address hear opened surveyOf arriving finished part be num same add rotr half mix
     step round rounds start compress chaining rootBlock wordAt blockAt flagsAt before lastNode chunkNode parentNode level
-    node bytes blake3 kindOf header chunkPacket donePacket sameKey equalInFive rise sizes find swap without refusal putPiece joined initAt chunkAt doneAt dropAt
+    node bytes outputBlocks output sumBy plain blake3 kindOf header chunkPacket donePacket sameKey equalInFive rise sizes find swap without refusal putPiece joined initAt chunkAt doneAt dropAt
     kindRow recvStep tooShort cellsFrom
 mixed-steps = (refl, refl, refl, refl, refl)
 
@@ -136,7 +137,7 @@ pub lossy-steps : (hear (init 260) (hear (init 260) opened) ≡ l2) × (hear (ch
     × (hear (done 2 (piece0 ++ piece1)) (hear (done 1 (piece0 ++ piece1)) l4) ≡ l6) × (hear (chunk 0 0 piece0) (hear (chunk 0 0 piece0) l6) ≡ l8)
 unfolding piece0 piece1 l2 l4 l6 l8 id init chunk done address hear opened survey surveyOf arriving finished part be num same add rotr half mix
     step round rounds start compress chaining rootBlock wordAt blockAt flagsAt before lastNode chunkNode parentNode level
-    node bytes blake3 kindOf header chunkPacket donePacket sameKey equalInFive rise sizes find swap without refusal putPiece joined initAt chunkAt doneAt
+    node bytes outputBlocks output sumBy plain blake3 kindOf header chunkPacket donePacket sameKey equalInFive rise sizes find swap without refusal putPiece joined initAt chunkAt doneAt
     dropAt kindRow recvStep tooShort cellsFrom
 lossy-steps = (refl, refl, refl, refl)
 

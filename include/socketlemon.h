@@ -56,7 +56,8 @@ typedef struct {
 #define SOCKETLEMON_BAD_CALENDAR 26
 #define SOCKETLEMON_SHORT_FRAME 27
 #define SOCKETLEMON_SOURCE_FULL 28
-#define SOCKETLEMON_REFUSALS 28
+#define SOCKETLEMON_BAD_LENGTHS 29
+#define SOCKETLEMON_REFUSALS 29
 
 /* The bytes of a store with `cells` cells, 1 to 45. */
 #define SOCKETLEMON_STORE_BYTES(cells) (16 + 8 * 328 + 1380 * (size_t)(cells))
@@ -83,6 +84,10 @@ typedef struct {
 
 /* The bytes of a calendar with so many closed dates, 0 to 32. */
 #define SOCKETLEMON_CALENDAR(dates) (31 + 4 * (size_t)(dates))
+
+/* The bytes of a key of the keyed hash, and the most that keyed hash and key derivation put out. */
+#define SOCKETLEMON_SUM_KEY 32
+#define SOCKETLEMON_LONGEST_SUM 65536
 
 /* Makes a store fresh, in a role. */
 socketlemon_answer socketlemon_setup(uint8_t *store, size_t store_len, uint64_t role);
@@ -122,6 +127,19 @@ socketlemon_answer socketlemon_report(const uint8_t *send, size_t send_len, cons
 
 /* Hands out the oldest whole message: its record of 328 bytes and its data, and its read packet. */
 socketlemon_answer socketlemon_take(uint8_t *recv, size_t recv_len, uint8_t *data, size_t data_len, uint8_t *run, size_t run_len);
+
+/* Fills all of `out` with BLAKE3's keyed hash of the input, which may have any number of bytes. A shorter
+ * output is the beginning of a longer one. A key that is not SOCKETLEMON_SUM_KEY bytes long, or an output of
+ * more than SOCKETLEMON_LONGEST_SUM, is refused (bad lengths) before any byte is read. Packets carry the
+ * plain sum, and not this one. */
+socketlemon_answer socketlemon_keyed_hash(const uint8_t *key, size_t key_len, const uint8_t *input,
+                                          size_t input_len, uint8_t *out, size_t out_len);
+
+/* Fills all of `out` with what BLAKE3's key derivation gives for a context, which says what the key is for,
+ * and the key material; both may be any bytes. An output of more than SOCKETLEMON_LONGEST_SUM is refused (bad
+ * lengths) before any byte is read. */
+socketlemon_answer socketlemon_derive_key(const uint8_t *context, size_t context_len, const uint8_t *material,
+                                          size_t material_len, uint8_t *out, size_t out_len);
 
 #ifdef __cplusplus
 }

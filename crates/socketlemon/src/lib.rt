@@ -4,6 +4,7 @@
 use answer::Answer;
 ghost use mathlib.Core.Path.{_≡_};
 ghost use Rattle.address.specs.Address.{addressOf};
+ghost use Rattle.sums.specs.Sums.{keyedHashOf, deriveKeyOf};
 ghost use Rattle.machine.specs.Setup.{setupOf};
 ghost use Rattle.machine.specs.Packet.{packetOf};
 ghost use Rattle.machine.specs.Push.{pushOf};
@@ -137,5 +138,27 @@ pub extern "C" fn socketlemon_address(key: &[u8], out: &mut [u8]) -> Answer
         ⌜ record { answer = r; out = now (out .exit) } ≡ addressOf (now (key .entry)) (now (out .entry)) ⌝ }
 {
     let number = address::address(key, out);
+    answer::refuse(number)
+}
+
+// The keyed hash of the input, which fills `out`.
+#[no_mangle]
+pub extern "C" fn socketlemon_keyed_hash(key: &[u8], input: &[u8], out: &mut [u8]) -> Answer
+    ensures { λ r.
+        ⌜ record { answer = r; out = now (out .exit) }
+        ≡ keyedHashOf (now (key .entry)) (now (input .entry)) (now (out .entry)) ⌝ }
+{
+    let number = sums::keyed_hash(key, input, out);
+    answer::refuse(number)
+}
+
+// The key that a context and key material give, which fills `out`.
+#[no_mangle]
+pub extern "C" fn socketlemon_derive_key(context: &[u8], material: &[u8], out: &mut [u8]) -> Answer
+    ensures { λ r.
+        ⌜ record { answer = r; out = now (out .exit) }
+        ≡ deriveKeyOf (now (context .entry)) (now (material .entry)) (now (out .entry)) ⌝ }
+{
+    let number = sums::derive_key(context, material, out);
     answer::refuse(number)
 }

@@ -1,0 +1,4 @@
+pub mod Sums
+pub mod Line
+pub mod SumsLaws
+pub mod LineLaws

@@ -1,9 +1,11 @@
 /* Calls every export of the library from C, on a message of one piece that goes from a tablet to the office; then inits of a message
- * that has arrived in part, wakes within and outside of sending hours, wakes of a message of ten pieces, frames of every length, and
- * cells by source.
+ * that has arrived in part, wakes within and outside of sending hours, wakes of a message of ten pieces,
+ * frames of every length, cells by source, and keyed and derived sums.
  * Exits with 0 and a last line 'N passed, 0 failed' if every answer is the expected one. */
+#define _DEFAULT_SOURCE /* for memory that nobody may read */
 #include <stdio.h>
 #include <string.h>
+#include <sys/mman.h>
 
 #include "socketlemon.h"
 
@@ -477,9 +479,91 @@ static void sources(void) {
     expect("31 of one are unsound", piece(SOCKETLEMON_UNSOUND_STORE, 1, 0) && takes(SOCKETLEMON_UNSOUND_STORE));
 }
 
+/* Key and context of the published vectors, and two of their sums: of 1,025 bytes that count up to 250. */
+static const uint8_t sum_key[] = "whats the Elvish word for friend";
+static const uint8_t context[] = "BLAKE3 2019-12-27 16:29:52 test vectors context";
+static const uint8_t keyed_sum[32] = {0x35, 0x7d, 0xc5, 0x5d, 0xe0, 0xc7, 0xe3, 0x82, 0xc9, 0x00, 0xfd,
+                                      0x6e, 0x32, 0x0a, 0xcc, 0x04, 0x14, 0x6b, 0xe0, 0x1d, 0xb6, 0xa8,
+                                      0xce, 0x72, 0x10, 0xb7, 0x18, 0x9b, 0xd6, 0x64, 0xea, 0x69};
+static const uint8_t derived_sum[32] = {0xef, 0xfa, 0xa2, 0x45, 0xf0, 0x65, 0xfb, 0xf8, 0x2a, 0xc1, 0x86,
+                                        0x83, 0x9a, 0x24, 0x97, 0x07, 0xc3, 0xbd, 0xdf, 0x6d, 0x3f, 0xdd,
+                                        0xa2, 0x2d, 0x1b, 0x95, 0xa3, 0xc9, 0x70, 0x37, 0x9b, 0xcb};
+
+enum { INPUT = 1025, CONTEXT = sizeof context - 1, MOST_SUM = SOCKETLEMON_LONGEST_SUM };
+static uint8_t input[INPUT], sum[MOST_SUM + 1], other_sum[MOST_SUM];
+
+/* The two ways to fill an output of so many bytes; all bytes were 0xee before. */
+static socketlemon_answer keyed(size_t key_len, size_t out_len) {
+    memset(sum, 0xee, sizeof sum);
+    return socketlemon_keyed_hash(sum_key, key_len, input, sizeof input, sum, out_len);
+}
+
+static socketlemon_answer derived(size_t context_len, size_t out_len) {
+    memset(sum, 0xee, sizeof sum);
+    return socketlemon_derive_key(context, context_len, input, sizeof input, sum, out_len);
+}
+
+/* Whether nothing was written from here on. */
+static int is_untouched(size_t from) {
+    while (from < sizeof sum && sum[from] == 0xee) from++;
+    return from == sizeof sum;
+}
+
+/* Whether outputs of other lengths are the beginning of the longest, and leave what is behind them. */
+static int begin_alike(socketlemon_answer (*fill)(size_t, size_t), size_t len) {
+    static const size_t lengths[] = {0, 1, 31, 32, 33, 63, 64, 65, 128, 1000, MOST_SUM - 1, MOST_SUM};
+    int right = answers(fill(len, MOST_SUM), 0, 0, 0);
+    memcpy(other_sum, sum, MOST_SUM);
+    for (size_t i = 0; i < sizeof lengths / sizeof *lengths; i++)
+        right = right && answers(fill(len, lengths[i]), 0, 0, 0) && memcmp(sum, other_sum, lengths[i]) == 0 &&
+                is_untouched(lengths[i]);
+    return right;
+}
+
+static int is_refused_29(socketlemon_answer a) { return answers(a, SOCKETLEMON_BAD_LENGTHS, 0, 0); }
+
+/* The same, and nothing was written. */
+static int is_bad_sum(socketlemon_answer a) { return is_refused_29(a) && is_untouched(0); }
+
+/* Whether refusal 29 comes before any byte is read or written: those here may be neither, and a library that
+ * tries it ends the program. */
+static int is_refused_unread(void) {
+    const size_t len = MOST_SUM + 1;
+    uint8_t *shut = mmap(NULL, 3 * len, PROT_NONE, MAP_PRIVATE | MAP_ANONYMOUS, -1, 0);
+    if (shut == MAP_FAILED) return 0;
+    int right = is_refused_29(socketlemon_keyed_hash(shut, 31, shut + len, len, shut + 2 * len, 32)) &&
+                is_refused_29(socketlemon_keyed_hash(shut, 32, shut + len, len, shut + 2 * len, len)) &&
+                is_refused_29(socketlemon_derive_key(shut, len, shut + len, len, shut + 2 * len, len));
+    return munmap(shut, 3 * len) == 0 && right;
+}
+
+/* Keyed and derived sums. */
+static void sums(void) {
+    for (size_t i = 0; i < sizeof input; i++) input[i] = (uint8_t)(i % 251);
+    expect("the published keyed sum",
+           answers(keyed(32, 32), 0, 0, 0) && memcmp(sum, keyed_sum, 32) == 0 && is_untouched(32));
+    expect("the published derived sum",
+           answers(derived(CONTEXT, 32), 0, 0, 0) && memcmp(sum, derived_sum, 32) == 0 && is_untouched(32));
+    expect("keyed outputs begin alike", begin_alike(keyed, SOCKETLEMON_SUM_KEY));
+    expect("derived outputs begin alike", begin_alike(derived, CONTEXT));
+    expect("keys of other lengths",
+           is_bad_sum(keyed(31, 32)) && is_bad_sum(keyed(33, 32)) && is_bad_sum(keyed(0, 32)));
+    expect("also for an output of no bytes", is_bad_sum(keyed(31, 0)) && is_bad_sum(keyed(33, 0)));
+    expect("outputs that are too long",
+           is_bad_sum(keyed(32, MOST_SUM + 1)) && is_bad_sum(derived(CONTEXT, MOST_SUM + 1)));
+    expect("both at once", is_bad_sum(keyed(31, MOST_SUM + 1)));
+    expect("a shorter context gives another sum",
+           answers(derived(CONTEXT - 1, 32), 0, 0, 0) && !is_untouched(0) &&
+                   memcmp(sum, derived_sum, 32) != 0);
+    expect("so does none",
+           answers(derived(0, 32), 0, 0, 0) && !is_untouched(0) && memcmp(sum, derived_sum, 32) != 0);
+    expect("bad lengths before anything is read", is_refused_unread());
+}
+
 int main(void) {
     static const uint8_t message[300] = {42};
     uint8_t key[32] = {7};
+    setvbuf(stdout, NULL, _IOLBF, 0); /* what has failed is shown even if a call then ends the program */
     expect("address of the office", answers(socketlemon_address(key, sizeof key, here, sizeof here), 0, 0, 0));
     expect("an address starts with 4 or 5", (here[0] & 0xfe) == 4);
     key[0] = 9;
@@ -528,6 +612,7 @@ int main(void) {
     eight();
     frames();
     sources();
+    sums();
     printf("%d passed, %d failed\n", passed, failed);
     return failed != 0;
 }

@@ -3,14 +3,17 @@
  * was accepted: an equal one has changed nothing either, and any other has left a fresh record. Of a frame: whether enough of it
  * came, and that no more was read. Of a chunk: its number, by the cells that its source holds and by those that are free. Of a wake:
  * what its calendar says, and which pieces it sends, counts and stamps, by the models here, which share nothing with the library.
+ * Of a keyed or derived sum: which lengths are refused, and every byte, by a model of BLAKE3.
  * Use: fuzz [SEED [ROUNDS [all]]]; under valgrind it also shows that nothing outside the buffers is touched, for each lies in an
  * allocation of its own. Exits with 0 if every answer was right and, with `all`, every refusal was met, both kinds of inits of a
  * message with pieces, frames of each kind at and around what they need, pieces of sources at their limit and below it, every way to
- * spoil a calendar, wakes that would have sent something, within hours and outside, and wakes with more to send than they may. */
+ * spoil a calendar, wakes that would have sent something, within hours and outside, wakes with more to send
+ * than they may, and sums of each way with lengths at and around their bounds. */
 #include <stdio.h>
 #include <stdlib.h>
 #include <string.h>
 
+#include "blake3_model.h"
 #include "socketlemon.h"
 
 enum { RECORD = 328, RECORDS_AT = 16, CELLS_AT = RECORDS_AT + 8 * RECORD, CELL = 1380 };
@@ -726,6 +729,73 @@ static void crowd(buffer *stores) {
     }
 }
 
+/* The two ways to make a sum, and how often each was met with which lengths: with an output like any other,
+ * with none, with the longest; and what is refused: a longer one and, of keyed sums, other keys or both. */
+enum { KEYED, DERIVED, WAYS_TO_SUM };
+enum { USUAL, NO_OUTPUT, LONGEST, LONG_OUTPUT, SHORT_KEY, LONG_KEY, BOTH_BAD, SUM_LENGTHS };
+static unsigned long sums[WAYS_TO_SUM][SUM_LENGTHS];
+
+/* Which of the lengths above these are; of a derived sum, the context may have any. */
+static int lengths_of(int way, size_t key, size_t out) {
+    int is_bad_key = way == KEYED && key != 32;
+    if (out > 65536) return is_bad_key ? BOTH_BAD : LONG_OUTPUT;
+    if (is_bad_key) return key < 32 ? SHORT_KEY : LONG_KEY;
+    return out == 0 ? NO_OUTPUT : out == 65536 ? LONGEST : USUAL;
+}
+
+/* A length: one at which blocks of 64 bytes, chunks of 1,024 or what is allowed begin or end, or any. */
+static size_t pick_sum_length(void) {
+    static const size_t turns[] = {0,    1,    31,   32,   33,   63,   64,   65,   127,   128,   129,
+                                   1023, 1024, 1025, 2048, 2049, 3072, 3073, 4096, 4097, 65535, 65536,
+                                   65537};
+    return below(3) ? turns[below(sizeof turns / sizeof *turns)] : below(below(4) ? 200 : 70000);
+}
+
+/* A sum of either way; `key` is the key or the context. */
+static socketlemon_answer call_sum(int way, buffer key, buffer input, buffer out) {
+    if (way == KEYED) return socketlemon_keyed_hash(key.at, key.len, input.at, input.len, out.at, out.len);
+    return socketlemon_derive_key(key.at, key.len, input.at, input.len, out.at, out.len);
+}
+
+/* What the model gives, in the place of what was there. */
+static void model_of(int way, buffer key, buffer input, buffer out) {
+    if (way == KEYED) model_keyed_hash(key.at, input.at, input.len, out.was, out.len);
+    else model_derive_key(key.at, key.len, input.at, input.len, out.was, out.len);
+}
+
+/* A keyed or derived sum: its number by the lengths, its bytes by the model; a refusal changes nothing. */
+static void one_sum(void) {
+    int way = (int)below(WAYS_TO_SUM);
+    size_t near_32 = below(4) ? 32 : below(2) ? 31 + 2 * below(2) : pick_sum_length();
+    buffer key = make(way == KEYED ? near_32 : pick_sum_length());
+    buffer input = make(pick_sum_length()), out = make(pick_sum_length());
+    int lengths = lengths_of(way, key.len, out.len), is_bad = lengths >= LONG_OUTPUT;
+    keep(key), keep(input), keep(out);
+    socketlemon_answer a = call_sum(way, key, input, out);
+    sums[way][lengths]++;
+    expect("the number of a sum", known(a.number) && a.number == (is_bad ? SOCKETLEMON_BAD_LENGTHS : 0));
+    expect("a sum sends nothing", a.run == 0 && a.wake == 0 && a.pieces == 0);
+    if (!is_bad) model_of(way, key, input, out);
+    expect(is_bad ? "a refused sum" : "the bytes of a sum", same_from(out, 0));
+    expect("key and input of a sum stay", same_from(key, 0) && same_from(input, 0));
+    drop(key), drop(input), drop(out);
+}
+
+/* Tells of the sums; whether each way was met with each of its lengths. */
+static int all_sums_met(void) {
+    enum { TO_MEET = SUM_LENGTHS + LONG_OUTPUT + 1 };
+    unsigned long lengths_met = 0, made = 0, refused = 0;
+    for (int i = 0; i < WAYS_TO_SUM * SUM_LENGTHS; i++) {
+        unsigned long count = sums[i / SUM_LENGTHS][i % SUM_LENGTHS];
+        lengths_met += count > 0;
+        if (i % SUM_LENGTHS < LONG_OUTPUT) made += count;
+        else refused += count;
+    }
+    printf("sums beside the model: %lu made, %lu refused; lengths of both ways: %lu of %d met\n", made,
+           refused, lengths_met, TO_MEET);
+    return lengths_met == TO_MEET;
+}
+
 static void sequence(void) {
     size_t cells = below(4) ? 1 + below(45) : 45;
     buffer stores[2] = {make(SOCKETLEMON_STORE_BYTES(cells)), make(SOCKETLEMON_STORE_BYTES(1 + below(45)))};
@@ -740,6 +810,7 @@ static void sequence(void) {
     last.there = 0;
     if (below(4) == 0) crowd(stores);
     for (size_t calls = below(120); calls > 0; calls--) one_call(stores);
+    for (size_t calls = below(4); calls > 0; calls--) one_sum();
     /* then a few calls on stores that somebody else has written to */
     for (size_t hits = 1 + below(4); hits > 0; hits--) {
         buffer hit = stores[below(2)];
@@ -752,7 +823,7 @@ static void sequence(void) {
 int main(int argc, char **argv) {
     state = argc > 1 ? strtoull(argv[1], NULL, 0) * 2 + 1 : 1;
     for (unsigned long rounds = argc > 2 ? strtoul(argv[2], NULL, 0) : 300; rounds > 0; rounds--) sequence();
-    int refusals = 0, wanted = argc > 3 && strcmp(argv[3], "all") == 0 ? SOCKETLEMON_REFUSALS : 0;
+    int refusals = 0, wants_all = argc > 3 && strcmp(argv[3], "all") == 0;
     for (int number = 1; number <= SOCKETLEMON_REFUSALS; number++) refusals += met[number];
     unsigned long ways = 0;
     for (int way = 0; way < WAYS; way++) ways += spoiled[way] > 0;
@@ -773,5 +844,7 @@ int main(int argc, char **argv) {
     printf("wakes with more to send than eight: %lu; that sent new and due pieces: %lu; due ones of several stamps: %lu\n", full_wakes, mixed_wakes, aged_wakes);
     int wakes = shut_wakes && open_wakes && full_wakes && mixed_wakes && aged_wakes;
     int frames = edges_met == KINDS * EDGES && lengths_met == LENGTHS && huge_sizes && rests;
-    return failed != 0 || refusals < wanted || (wanted && !(equal_inits && other_inits && frames && shares_met == SHARES && wakes && ways == WAYS));
+    int others = equal_inits && other_inits && shares_met == SHARES && ways == WAYS;
+    int all = all_sums_met() && wakes && frames && others && refusals == SOCKETLEMON_REFUSALS;
+    return failed != 0 || (wants_all && !all);
 }

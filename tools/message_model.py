@@ -34,26 +34,37 @@ def compress(chain, block, counter, size, flags):
                 v[b] ^= v[c]
                 v[b] = (v[b] >> left | v[b] << (32 - left)) & 0xFFFFFFFF
         words = [words[p] for p in PLACES]
-    return [v[i] ^ v[i + 8] for i in range(8)]
+    return [v[i] ^ v[i + 8] for i in range(8)] + [v[i + 8] ^ chain[i] for i in range(8)]
 
 
-def subtree(data, counter, root):
+def subtree(key, mode, data, counter):
+    """The inputs of the last compression over the data: what the root's output and a chaining value are made of."""
     if len(data) <= 1024:
         blocks = [data[i:i + 64] for i in range(0, len(data), 64)] or [b""]
-        chain = IV
-        for i, block in enumerate(blocks):
-            last = i + 1 == len(blocks)
-            chain = compress(chain, block, counter, len(block), (i == 0) | last << 1 | (last and root) << 3)
-        return chain
+        chain, flags = key, mode | 1
+        for block in blocks[:-1]:
+            chain, flags = compress(chain, block, counter, 64, flags)[:8], mode
+        return chain, blocks[-1], counter, len(blocks[-1]), flags | 2
     left = 1024
     while 2 * left < len(data):
         left *= 2
-    both = subtree(data[:left], counter, False) + subtree(data[left:], counter + left // 1024, False)
-    return compress(IV, struct.pack("<16I", *both), 0, 64, 4 | root << 3)
+    parts = ((data[:left], counter), (data[left:], counter + left // 1024))
+    both = [word for part, first in parts for word in compress(*subtree(key, mode, part, first))[:8]]
+    return key, struct.pack("<16I", *both), 0, 64, mode | 4
 
 
-def short_blake3(data):
-    return struct.pack("<8I", *subtree(data, 0, True))
+def short_blake3(data, size=32, key=IV, mode=0):
+    chain, block, _, length, flags = subtree(key, mode, data, 0)
+    blocks = (compress(chain, block, i, length, flags | 8) for i in range(size // 64 + 1))
+    return b"".join(struct.pack("<16I", *words) for words in blocks)[:size]
+
+
+def keyed_hash(key, data, size=32):
+    return short_blake3(data, size, struct.unpack("<8I", key), 16)
+
+
+def derive_key(context, material, size=32):
+    return short_blake3(material, size, struct.unpack("<8I", short_blake3(context, mode=32)), 64)
 
 
 def blake3(data):
@@ -957,11 +968,22 @@ def message_values():
         group()
 
 
+VECTOR_KEY = b"whats the Elvish word for friend"
+VECTOR_CONTEXT = b"BLAKE3 2019-12-27 16:29:52 test vectors context"
+
+
 def vectors(path):
+    """The published vectors, 131 bytes of output in each mode: plain, keyed, derived."""
+    modes = {
+        "p": short_blake3,
+        "k": lambda data, size: keyed_hash(VECTOR_KEY, data, size),
+        "d": lambda data, size: derive_key(VECTOR_CONTEXT, data, size),
+    }
     for line in open(path):
-        length, digest = line.split()
+        mode, length, digest = line.split()
         data = bytes(i % 251 for i in range(int(length)))
-        assert blake3(data).hex() == short_blake3(data).hex() == digest, line
+        assert modes[mode](data, len(digest) // 2).hex() == digest, line
+        assert mode != "p" or blake3(data).hex() == digest[:64], line
     print("all vectors are right")
 
 

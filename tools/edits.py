@@ -135,8 +135,9 @@ class Log:
             behind = []
             if state:
                 self.unproved.add(state[1])
-                if state[2] == "no proof":
-                    self.open[state[1]] = state[3].partition("; ")[2]
+                why = state[3].partition("; ")[2]
+                if state[2] == "no proof" and not why.startswith("it calls"):
+                    self.open[state[1]] = why
             elif error:
                 self.errors.setdefault(error[1], []).append((error[2] or "", error[3], behind))
 

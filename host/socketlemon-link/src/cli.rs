@@ -17,7 +17,7 @@ pub struct Cli {
     pub side: Side,
 }
 
-/// The sides, their keys, and a lesson on both.
+/// The sides, their keys, what they have left behind, and a lesson on both.
 #[derive(Debug, Subcommand)]
 pub enum Side {
     /// The side that sends surveys
@@ -26,6 +26,9 @@ pub enum Side {
     /// The side that receives surveys
     #[command(subcommand)]
     Office(OfficeCommand),
+    /// Surveys that are kept for years: their key and their check
+    #[command(subcommand)]
+    Archive(ArchiveCommand),
     /// Show why a survey is slow: a tablet and an office over a link that loses and repeats packets as told
     Classroom(ClassroomArgs),
     /// Show the key of a file and its address; the file is made if it is not there
@@ -47,6 +50,29 @@ pub enum TabletCommand {
 pub enum OfficeCommand {
     /// Receive surveys and write each to a file when it is whole
     Listen(ListenArgs),
+}
+
+/// What is done with archived surveys.
+#[derive(Debug, Subcommand)]
+pub enum ArchiveCommand {
+    /// Check the surveys in a folder against their keyed sums, and name what does not match
+    #[command(after_help = "Exit status: 0 there are surveys and all match, 1 otherwise, 2 wrong usage.")]
+    Check(CheckArgs),
+    /// Make an archive key, the secret of --archive-key, in a file that is not there yet
+    Key {
+        /// The file, which only its owner can read
+        file: PathBuf,
+    },
+}
+
+/// What to check.
+#[derive(Debug, Args)]
+pub struct CheckArgs {
+    /// The folder of the surveys
+    pub folder: PathBuf,
+    /// The archive key with which the office has written them
+    #[arg(long, value_name = "FILE")]
+    pub archive_key: PathBuf,
 }
 
 /// How to send.
@@ -101,6 +127,9 @@ pub struct ListenArgs {
     /// The file that keeps what has arrived so far [default: office.store in the folder for the surveys]
     #[arg(long, value_name = "FILE")]
     pub store: Option<PathBuf>,
+    /// Write a keyed sum beside each survey, with the secret of this file; the command archive key makes one
+    #[arg(long, value_name = "FILE")]
+    pub archive_key: Option<PathBuf>,
     /// A topic that is taken, and from which subnets; can be given again. All other topics are rejected
     #[arg(long, value_name = "TOPIC[=SUBNET,..]", default_value = "survey=400::/7", value_parser = allowed)]
     pub allow: Vec<Allowed>,

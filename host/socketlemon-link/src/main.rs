@@ -1,14 +1,16 @@
-//! The commands `tablet send`, `office listen`, `classroom` and `key`.
+//! The commands `tablet send`, `office listen`, `archive`, `classroom` and `key`.
 
 #![forbid(unsafe_code)]
 
 use clap::Parser;
 use socketlemon::Calendar;
+use socketlemon_link::archive::{self, ArchiveKey};
 use socketlemon_link::classroom::lesson::Lesson;
 use socketlemon_link::classroom::script::Script;
 use socketlemon_link::classroom::{page, terminal};
 use socketlemon_link::cli::{
-    self, ClassroomArgs, Cli, ListenArgs, OfficeCommand, SendArgs, Side, TabletCommand,
+    self, ArchiveCommand, CheckArgs, ClassroomArgs, Cli, ListenArgs, OfficeCommand, SendArgs, Side,
+    TabletCommand,
 };
 use socketlemon_link::failure::Failure;
 use socketlemon_link::hours;
@@ -26,6 +28,12 @@ fn main() -> ExitCode {
     let done = match Cli::parse().side {
         Side::Tablet(TabletCommand::Send(args)) => send(args),
         Side::Office(OfficeCommand::Listen(args)) => listen(args),
+        Side::Archive(ArchiveCommand::Check(args)) => match check(&args) {
+            // what is wrong has been said
+            Ok(false) => return ExitCode::FAILURE,
+            done => done.map(|_| ()),
+        },
+        Side::Archive(ArchiveCommand::Key { file }) => archive_key(&file),
         Side::Classroom(args) => classroom(args),
         Side::Key { file } => key(&file),
     };
@@ -59,6 +67,18 @@ fn key(file: &Path) -> Result<(), Failure> {
     Ok(())
 }
 
+/// Makes an archive key, which is not shown.
+fn archive_key(file: &Path) -> Result<(), Failure> {
+    ArchiveKey::make(file)?;
+    say(&format!("a new archive key is in {}; keep it secret, and a copy of it elsewhere", file.display()));
+    Ok(())
+}
+
+/// Checks archived surveys, and says whether all match.
+fn check(args: &CheckArgs) -> Result<bool, Failure> {
+    archive::check(&args.folder, &ArchiveKey::of_file(&args.archive_key)?, |line| say(&line))
+}
+
 fn send(args: SendArgs) -> Result<(), Failure> {
     let told = Send {
         survey: tablet::read_survey(&args.file)?,
@@ -84,10 +104,15 @@ fn send(args: SendArgs) -> Result<(), Failure> {
 
 fn listen(args: ListenArgs) -> Result<(), Failure> {
     let key = Key::of_file(&args.key)?;
+    let archive = args.archive_key.as_deref().map(ArchiveKey::of_file).transpose()?;
+    if archive.as_ref().map_or(false, |archive| archive.is_public(&key)) {
+        return Err(Failure::new("the archive key is the office's key, which is no secret"));
+    }
     let told = Listen {
         store: args.store.unwrap_or_else(|| args.out.join("office.store")),
         out: args.out,
         listen: args.listen,
+        archive,
         key,
         known: args.known,
         rules: cli::rules(&args.allow).map_err(|error| Failure::new(format!("wrong --allow: {error}")))?,

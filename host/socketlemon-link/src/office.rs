@@ -4,6 +4,7 @@ mod calls;
 mod desk;
 
 use crate::admission::Admission;
+use crate::archive::ArchiveKey;
 use crate::counts::Counts;
 use crate::datagram;
 use crate::failure::Failure;
@@ -42,6 +43,8 @@ const KEYS: Duration = Duration::from_secs(1);
 pub struct Listen {
     /// The folder for the surveys.
     pub out: PathBuf,
+    /// The key of the sums that are kept beside the surveys; none are if there is no key.
+    pub archive: Option<ArchiveKey>,
     /// The socket to listen on.
     pub listen: SocketAddrV6,
     /// The office's key.
@@ -90,7 +93,7 @@ impl Office {
     /// Opens the folder, the socket and the store.
     pub fn open(told: &Listen) -> Result<Office, Failure> {
         let (known_file, known) = KnownFile::open(&told.known)?;
-        let surveys = Surveys::open(&told.out)?;
+        let surveys = Surveys::open(&told.out, told.archive.clone())?;
         let port = Port::open(told.listen, told.odds)?;
         let mut office = Office {
             own: told.key.address(),

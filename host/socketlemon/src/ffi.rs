@@ -75,6 +75,22 @@ extern "C" {
         run: *mut u8,
         run_len: usize,
     ) -> Answer;
+    fn socketlemon_keyed_hash(
+        key: *const u8,
+        key_len: usize,
+        input: *const u8,
+        input_len: usize,
+        out: *mut u8,
+        out_len: usize,
+    ) -> Answer;
+    fn socketlemon_derive_key(
+        context: *const u8,
+        context_len: usize,
+        material: *const u8,
+        material_len: usize,
+        out: *mut u8,
+        out_len: usize,
+    ) -> Answer;
 }
 
 pub(crate) fn setup(store: &mut [u8], role: u64) -> Answer {
@@ -193,6 +209,34 @@ pub(crate) fn take(recv: &mut [u8], data: &mut [u8], run: &mut [u8]) -> Answer {
             data.len(),
             run.as_mut_ptr(),
             run.len(),
+        )
+    }
+}
+
+pub(crate) fn keyed_hash(key: &[u8], input: &[u8], out: &mut [u8]) -> Answer {
+    // SAFETY: live slices with their lengths; `out` is borrowed mutably.
+    unsafe {
+        socketlemon_keyed_hash(
+            key.as_ptr(),
+            key.len(),
+            input.as_ptr(),
+            input.len(),
+            out.as_mut_ptr(),
+            out.len(),
+        )
+    }
+}
+
+pub(crate) fn derive_key(context: &[u8], material: &[u8], out: &mut [u8]) -> Answer {
+    // SAFETY: live slices with their lengths; `out` is borrowed mutably.
+    unsafe {
+        socketlemon_derive_key(
+            context.as_ptr(),
+            context.len(),
+            material.as_ptr(),
+            material.len(),
+            out.as_mut_ptr(),
+            out.len(),
         )
     }
 }

@@ -3,6 +3,7 @@
 //! This is the safe Rust API over the proved library. The library owns bytes: two [`Store`]s, one for what arrives and one for what leaves, and the
 //! packets that a call hands back as a [`Run`]. The host owns sockets and clocks. A call gives a result or a [`Refusal`]; a refusal changes nothing.
 //! docs/PROTOCOL.md says what each call does.
+//! Surveys that are kept get sums that only key holders can make: see [`SumKey`].
 //!
 //! # A message from a tablet to the office
 //!
@@ -82,6 +83,7 @@ mod report;
 mod rules;
 mod run;
 mod store;
+mod sums;
 
 pub use address::{Address, Id};
 pub use calendar::{Calendar, CalendarError, LocalTime, Offset, Window};
@@ -92,6 +94,7 @@ pub use report::{Report, State};
 pub use rules::{Rules, RulesError, Subnet};
 pub use run::{Packet, Packets, Run};
 pub use store::{Answer, Arrival, Push, Role, Store, Wake};
+pub use sums::{derive_key, keyed_hash, keyed_hash_32, same_sum, SumKey};
 
 /// The most bytes of a frame: no packet is longer.
 pub const FRAME: usize = 1_400;
@@ -119,3 +122,9 @@ pub const TAKE_RUN: usize = 46;
 
 /// The run buffer that is enough for every call: a wake's is the longest.
 pub const LONGEST_RUN: usize = WAKE_RUN;
+
+/// The bytes of a [`SumKey`], and of the sums that [`keyed_hash_32`] makes.
+pub const SUM_KEY: usize = 32;
+
+/// The most bytes of an output of [`keyed_hash`] and of [`derive_key`].
+pub const LONGEST_SUM: usize = 65_536;

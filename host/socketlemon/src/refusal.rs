@@ -63,12 +63,14 @@ pub enum Refusal {
     ShortFrame,
     /// 28: a piece needs a new cell while the source of its record holds 30.
     SourceFull,
+    /// 29: a key of the keyed hash is not 32 bytes long, or an output is longer than 65,536.
+    BadLengths,
     /// A number that this crate has no name for. The library has none such; a newer one might.
     Other(u64),
 }
 
 /// Each refusal with its trade word; the first is number 1.
-const TABLE: [(Refusal, &str); 28] = [
+const TABLE: [(Refusal, &str); 29] = [
     (Refusal::BadFrame, "bad frame"),
     (Refusal::ShortOutput, "short output"),
     (Refusal::BadRules, "bad rules"),
@@ -97,6 +99,7 @@ const TABLE: [(Refusal, &str); 28] = [
     (Refusal::BadCalendar, "bad calendar"),
     (Refusal::ShortFrame, "short frame"),
     (Refusal::SourceFull, "source full"),
+    (Refusal::BadLengths, "bad lengths"),
 ];
 
 impl Refusal {
@@ -109,7 +112,7 @@ impl Refusal {
         Some(row.map_or(Refusal::Other(number), |(refusal, _)| *refusal))
     }
 
-    /// Its number, 1 to 28.
+    /// Its number, 1 to 29.
     pub fn number(self) -> u64 {
         match (self, self.row()) {
             (Refusal::Other(number), _) => number,
@@ -138,7 +141,7 @@ mod tests {
     use super::*;
 
     /// The trade words of docs/PROTOCOL.md, copied from there and not from the code.
-    const WORDS: [&str; 28] = [
+    const WORDS: [&str; 29] = [
         "bad frame",
         "short output",
         "bad rules",
@@ -167,6 +170,7 @@ mod tests {
         "bad calendar",
         "short frame",
         "source full",
+        "bad lengths",
     ];
 
     #[test]
@@ -186,7 +190,7 @@ mod tests {
 
     #[test]
     fn other_numbers_have_words_too() {
-        for n in [29, 255, u64::MAX] {
+        for n in [30, 255, u64::MAX] {
             let refusal = Refusal::from_number(n).expect("a refusal");
             assert_eq!(refusal, Refusal::Other(n));
             assert_eq!(refusal.number(), n);

@@ -8,9 +8,14 @@ import subprocess
 import sys
 
 LONGEST = 32500
-# bars, each with what it should reach (or None): of BLAKE3 our speed by the portable crate's, by length; of packet calls their time in scans, by what
-# the stores hold; of a transfer our time by the original's; of asking whether a calendar is open its share of a wake
+LONGEST_SUM = 65536
+# bars, each with what it should reach (or None): of BLAKE3 our speed by the portable crate's, by length;
+# of keyed and derived sums their speed by the plain one's; of the longest output ours by that crate's;
+# of packet calls their time in scans, by what the stores hold; of a transfer our time by the original's;
+# of asking whether a calendar is open its share of a wake
 SUM_BARS = {64: (0.8, None), 1300: (0.85, None), 4096: (1.8, 2.1), LONGEST: (1.8, 2.1)}
+WAY_BARS = {"keyed": 0.98, "derived": 0.98}
+OUTPUT_BAR = 0.8
 CALL_BARS = {"full": 1.3, "empty": 1.6}
 TRANSFER_BAR, TRANSFER_REACH = 3.0, 2.5
 HOURS_BAR = 0.1  # of a wake
@@ -103,6 +108,16 @@ def speed(figures, platform, length):
     return figures.get(f"sums-{platform}", "crate", length) / figures.get(f"sums-{platform}", "ours", length)
 
 
+def by_plain(figures, platform, way):
+    """The speed of a keyed or derived sum by the plain one's."""
+    return figures.get(f"ways-{platform}", "plain") / figures.get(f"ways-{platform}", way)
+
+
+def output_speed(figures, platform):
+    """The library's speed by the crate's, in filling the longest output."""
+    return figures.get(f"outputs-{platform}", "crate") / figures.get(f"outputs-{platform}", "ours")
+
+
 def table(head, rows):
     lines = [head, ["---"] * len(head), *rows]
     return "\n".join("| " + " | ".join(line) + " |" for line in lines) + "\n"
@@ -147,11 +162,22 @@ def bar(text, reach, measured, met, reached):
     return [text, "" if reach is None else str(reach), measured, "reached" if reach is not None and reached else "met" if met else "MISSED"]
 
 
+def speed_bar(what, whose, least, reach, speeds):
+    """A bar on the speed of something by another's, measured in each round; the worst counts."""
+    text, measured = f"{what}: at least {least} of {whose} speed", ", ".join(ratio(one, 3) for one in speeds)
+    return bar(text, reach, measured, min(speeds) >= least, reach is not None and min(speeds) >= reach)
+
+
 def sum_bars(figures):
+    rounds = figures.rounds()
     for length, (least, reach) in SUM_BARS.items():
-        speeds = [speed(one, "Portable", length) for one in figures.rounds()]
-        yield bar(f"BLAKE3 of {length:,} bytes: at least {least} of the portable crate's speed", reach, ", ".join(ratio(one, 3) for one in speeds),
-                  min(speeds) >= least, reach is not None and min(speeds) >= reach)
+        yield speed_bar(f"BLAKE3 of {length:,} bytes", "the portable crate's", least, reach,
+                        [speed(one, "Portable", length) for one in rounds])
+    for way, least in WAY_BARS.items():
+        yield speed_bar(f"a {way} sum of {LONGEST:,} bytes", "the plain one's", least, None,
+                        [by_plain(one, "Portable", way) for one in rounds])
+    yield speed_bar(f"an output of {LONGEST_SUM:,} bytes", "the portable crate's", OUTPUT_BAR, None,
+                    [output_speed(one, "Portable") for one in rounds])
 
 
 def call_bars(figures):
@@ -196,15 +222,36 @@ def hours(figures):
     return table(["closed dates", "stores", "wake, ns", "its form, ns", "share", "whether open, ns", "share"], rows)
 
 
-def sums(figures):
+def sum_runs(figures):
+    """The processes that ran sums: what each is called, the crate's implementation there, and its figures."""
     runs = [(f"Portable, round {n}", "Portable", one) for n, one in enumerate(figures.rounds(), 1)]
-    runs += [(platform, platform, figures) for platform in figures.platforms()]
+    return runs + [(platform, platform, figures) for platform in figures.platforms()]
+
+
+def sums(figures):
     rows = []
-    for name, platform, run in runs:
+    for name, platform, run in sum_runs(figures):
         for length in SUM_BARS:
             ours, crate = (run.get(f"sums-{platform}", who, length) for who in ("ours", "crate"))
             rows.append([name, f"{length:,}", ns(ours), ns(crate), f"{1000 * length / ours:,.0f}", ratio(speed(run, platform, length), 3)])
     return table(["the crate's implementation", "bytes", "ours, ns", "crate, ns", "ours, MB/s", "our speed / the crate's"], rows)
+
+
+def ways(figures):
+    rows = []
+    for name, platform, run in sum_runs(figures):
+        times = [ns(run.get(f"ways-{platform}", way)) for way in ("plain", *WAY_BARS)]
+        rows.append([name, *times, *(ratio(by_plain(run, platform, way), 3) for way in WAY_BARS)])
+    times, speeds = [f"{way}, ns" for way in WAY_BARS], [f"{way} speed / plain" for way in WAY_BARS]
+    return table(["run", "plain, ns", *times, *speeds], rows)
+
+
+def outputs(figures):
+    rows = []
+    for name, platform, run in sum_runs(figures):
+        times = [ns(run.get(f"outputs-{platform}", who)) for who in ("ours", "crate")]
+        rows.append([name, *times, ratio(output_speed(run, platform), 3)])
+    return table(["the crate's implementation", "ours, ns", "crate, ns", "our speed / the crate's"], rows)
 
 
 def calls(figures, fill):
@@ -309,6 +356,15 @@ the portable one where SIMD is left out of its build.
 That is run in three rounds, and the worst of them has to meet the bar.
 
 {sums(figures)}
+A keyed and a derived sum of {LONGEST:,} bytes, each in 32 bytes, and right before them the plain one again.
+All three are the library's, the plain one by itself and the others as they are exported.
+The derived one has its context to hash too, which fits in a block.
+The runs are those of the table above, and again the worst of the three rounds has to meet the bar.
+
+{ways(figures)}
+An output of {LONGEST_SUM:,} bytes: the keyed hash of 64 bytes, beside the crate's.
+
+{outputs(figures)}
 ## Packet calls
 
 Stores of 45 cells.

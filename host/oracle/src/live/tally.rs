@@ -301,7 +301,7 @@ fn cells(push: &Push) -> usize {
 #[cfg(test)]
 mod tests {
     use super::*;
-    use crate::call::{Wake, BAD_CALENDAR, FRAME};
+    use crate::call::{Wake, BAD_CALENDAR, BAD_LENGTHS, FRAME};
 
     fn tally() -> Tally {
         Tally::new(&Setup { key: [0; 32], recv_cells: 2, send_cells: 3 })
@@ -344,6 +344,12 @@ mod tests {
         assert!(tally.has_reason(&Call::Push(push(9, 0)), 7));
         let wake = Call::Wake(Wake::Send, [1; 8], 0);
         assert!([2, 8, 20, BAD_CALENDAR].iter().all(|number| !tally.has_reason(&wake, *number)));
+        let calls =
+            [wake, Call::Push(push(9, 0)), Call::Packet(packet(frame::init([9; 8], 0, 0, &[]))), Call::Take];
+        assert!(
+            calls.iter().all(|call| !tally.has_reason(call, BAD_LENGTHS)),
+            "only sums have lengths that are bad"
+        );
     }
 
     #[test]

@@ -1,6 +1,6 @@
 #!/usr/bin/env python3
-"""Which files of definitions have to be believed: those that the contracts of the exports, that of the classroom and the statements of the top theorems
-rest on, and what these rest on in turn. Makes docs/TRUSTED.md.
+"""Which files of definitions have to be believed: those that the contracts of the exports, of the plain sum's line and of the classroom and the statements of the
+top theorems rest on, and what these rest on in turn. Makes docs/TRUSTED.md.
 
 Use: tools/trusted.py           print the page
      tools/trusted.py --write   write docs/TRUSTED.md
@@ -15,8 +15,8 @@ import sys
 ROOT = os.path.join(os.path.dirname(os.path.abspath(__file__)), "..")
 PAGE = "docs/TRUSTED.md"
 
-# what the customer's demands are met by: the contracts of the exports and of the classroom, and theorems by the crate and file that prove them
-CONTRACTS = ("crates/socketlemon/src/lib.rt", "crates/lesson/src/show.rt")
+# what the customer's demands are met by: the contracts of the exports, of the plain sum's line and of the classroom, and theorems by the crate and file that prove them
+CONTRACTS = ("crates/socketlemon/src/lib.rt", "crates/sums/src/line.rt", "crates/lesson/src/show.rt")
 THEOREMS = {
     ("ledger", "DemandLaws"): ["demand3"],
     ("ledger", "InOrderLaws"): ["takes-give"],
@@ -27,6 +27,7 @@ THEOREMS = {
     ("ledger", "CameLaws"): ["kept"],
     ("ledger", "UntouchedLaws"): ["send-untouched", "recv-untouched"],
     ("address", "AddressLaws"): ["address-refused"],
+    ("sums", "SumsLaws"): ["keyed-hash-refused", "derive-key-refused"],
     ("machine", "StarredLaws"): ["starred-hold"],
     ("lesson", "SettledLaws"): ["settled-empty", "pushed-empty", "round-empty"],
 }
@@ -135,7 +136,7 @@ def reached(found):
     return done, enums
 
 
-ORDER = ["octets", "answer", "blake3", "packet", "topic", "calendar", "address", "machine", "ledger", "script", "link", "lesson"]
+ORDER = ["octets", "answer", "blake3", "packet", "topic", "calendar", "address", "sums", "machine", "ledger", "script", "link", "lesson"]
 
 
 def page(found, done, enums):
@@ -143,8 +144,9 @@ def page(found, done, enums):
     lines = sum(found[f].lines for f in files)
     text = ["# What has to be believed", "",
             "Made by `tools/trusted.py`; the gate compares it with the sources.",
-            "The contracts of the exports (`crates/socketlemon/src/lib.rt`) and of the classroom",
-            "(`crates/lesson/src/show.rt`), and the top theorems that [PROOFS](PROOFS.md) names,",
+            "The contracts of the exports (`crates/socketlemon/src/lib.rt`), of the plain sum's line",
+            "(`crates/sums/src/line.rt`) and of the classroom (`crates/lesson/src/show.rt`),",
+            "and the top theorems that [PROOFS](PROOFS.md) names,",
             "rest on the definitions of these files and on no others.",
             "None of them states a law: laws stand in files whose names end in `Laws`, and in crates of laws.",
             "The checker has proved that the code and the theorems meet these definitions;",

@@ -16,7 +16,7 @@ use std::time::{Duration, Instant};
 
 /// A link on which a survey of 25 pieces takes some seconds.
 fn slow_link(seed: u64) -> Bad {
-    Bad { lose: 0.5, repeat: 0.1, late: Duration::from_millis(50), seed }
+    Bad { lose: 0.5, repeat: 0.1, late: Duration::from_millis(50), lost_aborts: None, seed }
 }
 
 /// Starts the known tablet with the longest survey, over a relay; and gives its lines.
@@ -66,14 +66,14 @@ fn a_restart_does_not_reset_silence() {
     assert!(start.elapsed() < Duration::from_secs(3), "it was dropped after {:?}", start.elapsed());
 }
 
-/// A tablet that is stopped says so, and leaves nothing behind in the office.
+/// A tablet that is stopped says so, and leaves nothing behind in the office, though the link loses two of the three packets that say it.
 #[test]
 fn a_tablet_that_is_stopped_says_that_it_gives_up() {
     for name in ["INT", "TERM", "HUP"] {
         let folder = Folder::new();
         introduce(&folder);
         let office = Office::start(&folder, "[::1]:0", &[]);
-        let relay = Relay::to(&office.socket, Bad { lose: 0.3, ..slow_link(2) });
+        let relay = Relay::to(&office.socket, Bad { lose: 0.3, lost_aborts: Some(2), ..slow_link(2) });
         let (mut tablet, mut lines) = send(&folder, &office, &relay);
         assert!(says(&mut lines, |line| line.starts_with("3 of 25 pieces")));
         signal(tablet.0.id(), name);

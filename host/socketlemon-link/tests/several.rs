@@ -10,7 +10,7 @@ use std::time::{Duration, Instant};
 
 /// A link that loses a tenth of the datagrams, repeats some, and is up to 40 ms late.
 fn bad(seed: u64) -> Bad {
-    Bad { lose: 0.1, repeat: 0.05, late: Duration::from_millis(40), seed }
+    Bad { lose: 0.1, repeat: 0.05, late: Duration::from_millis(40), lost_aborts: None, seed }
 }
 
 /// A tablet that was started, and what became of it.

@@ -8,17 +8,23 @@ use std::thread::JoinHandle;
 use std::time::{Duration, Instant};
 
 /// How bad the link is: the first two are probabilities for a datagram, and each is late by up to a time, which reorders them.
+/// With a number, so many of the packets by which a tablet gives up are lost, the first ones, and none behind them.
 #[derive(Clone, Copy)]
 pub struct Bad {
     pub lose: f64,
     pub repeat: f64,
     pub late: Duration,
+    pub lost_aborts: Option<usize>,
     pub seed: u64,
 }
 
 impl Bad {
-    pub const GOOD: Bad = Bad { lose: 0.0, repeat: 0.0, late: Duration::ZERO, seed: 1 };
+    pub const GOOD: Bad = Bad { lose: 0.0, repeat: 0.0, late: Duration::ZERO, lost_aborts: None, seed: 1 };
 }
+
+/// Where a datagram has its packet's flags, behind the two addresses and the id; and those of a packet by which a tablet gives up.
+const FLAGS: usize = 16 + 16 + 8;
+const ABORTED: u8 = 0x20;
 
 /// A relay that runs until it is dropped.
 pub struct Relay {
@@ -36,8 +42,8 @@ impl Relay {
         let socket = front.local_addr().expect("its address").to_string();
         let office = office.parse().expect("the office's socket");
         let (is_cut, is_over) = (Arc::new(AtomicBool::new(false)), Arc::new(AtomicBool::new(false)));
-        let mut work =
-            Work { front, office, backs: Vec::new(), late: Vec::new(), bad, random: Seeded::new(bad.seed) };
+        let random = Seeded::new(bad.seed);
+        let mut work = Work { front, office, backs: Vec::new(), late: Vec::new(), aborts: 0, bad, random };
         let (cut, over) = (Arc::clone(&is_cut), Arc::clone(&is_over));
         let thread = std::thread::spawn(move || {
             while !over.load(Ordering::Relaxed) {
@@ -70,6 +76,8 @@ struct Work {
     /// For each tablet the socket that speaks for it.
     backs: Vec<(SocketAddr, UdpSocket)>,
     late: Vec<Late>,
+    /// How many packets by which a tablet gives up have come.
+    aborts: usize,
     bad: Bad,
     random: Seeded,
 }
@@ -100,13 +108,23 @@ impl Work {
     }
 
     fn take(&mut self, number: usize, there: bool, bytes: Vec<u8>) {
-        if self.random.chance(self.bad.lose) {
+        if self.is_lost(there, &bytes) {
             return;
         }
         let copies = 1 + usize::from(self.random.chance(self.bad.repeat));
         for _ in 0..copies {
             let part = (self.random.number() % 1_000) as u32;
             self.late.push((Instant::now() + self.bad.late * part / 1_000, number, there, bytes.clone()));
+        }
+    }
+
+    fn is_lost(&mut self, there: bool, bytes: &[u8]) -> bool {
+        match self.bad.lost_aborts {
+            Some(lost) if there && bytes.get(FLAGS) == Some(&ABORTED) => {
+                self.aborts += 1;
+                self.aborts <= lost
+            }
+            _ => self.random.chance(self.bad.lose),
         }
     }
 

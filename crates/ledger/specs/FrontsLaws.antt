@@ -15,7 +15,7 @@ use Rattle.machine_steps.specs.Refusals.{Clear, refusal-front}
 use Rattle.ledger.specs.RefusedLaws.{packet-number, take-number}
 
 -- where each test of its front holds, a row answers what stands behind the front answers
-front-refusal : (front row : Refusals) → Clear front → refusal (front ++ row) ≡ refusal row
+pub front-refusal : (front row : Refusals) → Clear front → refusal (front ++ row) ≡ refusal row
 unfolding refusal
 front-refusal [] row c = refl
 front-refusal (t ∷ front) row c = rw (c .0) (front-refusal front row (c .1))

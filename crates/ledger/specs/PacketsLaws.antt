@@ -48,7 +48,7 @@ stores recv send = record { recv = encode recv; send = encode send }
 
 module _ (out : List ℕ) (room : packetRoom ≤ length out) where
   module _ (p : Packet) (f : Full p) (recv send : Store) (v : Valid roleReceive recv) (w : Valid roleSend send) where
-    one-answer : answer (packet p out) (stores recv send) ≡ number p recv send
+    pub one-answer : answer (packet p out) (stores recv send) ≡ number p recv send
     unfolding answer
     one-answer =
         packet-answer p (encode recv) (encode send) out
@@ -56,7 +56,7 @@ module _ (out : List ℕ) (room : packetRoom ≤ length out) where
         & le-leb packetRoom (length out) room & tt)
         ∙ (λ i. refusal (kindRow (kind p) p (valid-sound roleReceive recv v .1 i) (valid-sound roleSend send w .1 i)))
 
-    one-after : number p recv send ≡ 0 → after (packet p out) (stores recv send) ≡ stores (recvStep (kind p) p recv) (sendStep (kind p) p send)
+    pub one-after : number p recv send ≡ 0 → after (packet p out) (stores recv send) ≡ stores (recvStep (kind p) p recv) (sendStep (kind p) p send)
     unfolding after answer
     one-after e =
         let n : refusal (packetRow p (encode recv) (encode send) out) ≡ 0 = sym (packet-number p (encode recv) (encode send) out) ∙ one-answer ∙ e in

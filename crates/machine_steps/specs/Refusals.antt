@@ -4,8 +4,8 @@ use native.Mathlib.Omega.{arith}
 use mathlib.Core.Path.{_≡_, refl}
 use mathlib.Core.Bool.{Bool, true}
 use mathlib.Core.List.{[], _∷_, _++_, append-nil}
-use lib.Dec.{ltb}
-use borrow.Author.Tests.{ltb-true}
+use lib.Dec.{eqb, ltb}
+use borrow.Author.Tests.{ltb-true, ne-eqb}
 use Rattle.octets.specs.BoolsLaws.{cases, split}
 use Rattle.octets.specs.Lists.{all, All}
 use Rattle.machine.specs.Refusals.{Refusals, refusal}
@@ -35,3 +35,13 @@ pub clear-refusal : (row : Refusals) → Clear row → refusal row ≡ 0
 unfolding refusal
 clear-refusal [] c = refl
 clear-refusal (t ∷ row) c = rw (c .0) (clear-refusal row (c .1))
+
+-- a row answers 0 exactly where each of its tests holds
+pub zero-refusal : (row : Refusals) → positive row ≡ true → eqb (refusal row) 0 ≡ all (λ (t : Bool × ℕ). t .0) row
+unfolding refusal
+zero-refusal [] p = refl
+zero-refusal (t ∷ row) p =
+    let s = split (ltb 0 (t .1)) (positive row) p in
+    cases (t .0)
+    (λ e. rw e (zero-refusal row (s .1)))
+    (λ e. rw e (ne-eqb (t .1) 0 (λ z. omega (arith, ltb-true 0 (t .1) (s .0)))))

@@ -72,6 +72,8 @@ pub const SOURCE_FULL: u64 = 28;
 
 pub const BAD_LENGTHS: u64 = 29;
 
+pub const NO_CUTS: u64 = 30;
+
 // A refusal: nothing is sent, nobody wakes.
 pub fn refuse(number: u64) -> Answer
     ensures { λ r. ⌜ r ≡ bare number ⌝ }

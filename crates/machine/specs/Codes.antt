@@ -92,6 +92,9 @@ sourceFull = 28
 abbrev pub badLengths : ℕ
 badLengths = 29
 
+abbrev pub noCuts : ℕ
+noCuts = 30
+
 -- ---- marks, roles, kinds, states
 
 -- a number that means yes or no is yes when it is not 0

@@ -1,2 +1,3 @@
 mod Lines
 mod Scripts
+mod Alone

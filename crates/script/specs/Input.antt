@@ -1,5 +1,5 @@
 -- The inputs of the classroom: the length of a survey in decimal on one line and, on a second that may be absent, letters.
--- A line ends in a line feed, which the last may lack.
+-- A line ends in a line feed, which the last may lack. Behind them, inputs of one number alone.
 use Prim.Native.Nat.{ℕ, _+_, _-_, _*_}
 use mathlib.Core.Bool.{Bool, not, cond, _&&_, _||_}
 use mathlib.Core.List.{List, [], _∷_}
@@ -68,3 +68,9 @@ isInput input =
     decimal (line input)
     && (leb (lengthOf input) longest
     && (leb (length (lettersOf input)) mostLetters && (all isLetter (lettersOf input) && eqb (length (behind (behind input))) 0)))
+
+-- ---- an input of one number
+
+-- the only line is a decimal, and nothing stands behind it
+unfoldable pub isOneNumber : List ℕ → Bool
+isOneNumber input = decimal (line input) && eqb (length (behind input)) 0

@@ -11,6 +11,7 @@ use Rattle.octets.specs.BoolsLaws.{cases, split, clash}
 use Rattle.octets.specs.Lists.{all}
 use Rattle.machine.specs.Limits.{longest}
 use Rattle.script.specs.Input.{lineFeed, line, behind, isDigit, isLetter, value, decimal, mostLetters, lengthOf, lettersOf, isInput}
+use Rattle.script.specs.Input.{isOneNumber}
 
 -- the first line's bytes are the line
 pub take-line : (s : List ℕ) → take (length (line s)) s ≡ line s
@@ -104,3 +105,10 @@ input-short s h =
       lines-length s,
       lines-length (behind s),
     )
+
+-- five digits and a line feed: whoever reads 7 bytes has read no number up to 32,500
+pub one-number-short : (s : List ℕ) → isOneNumber s ≡ true → lengthOf s ≤ longest → length s ≤ 6
+unfolding isOneNumber
+one-number-short s h k =
+    let a = split (decimal (line s)) _ h in
+    omega (arith, digits-short (line s) (a .0) k, eqb-true (length (behind s)) 0 (a .1), lines-length s)

@@ -1,4 +1,4 @@
-// Reading an input: a length and letters.
+// Reading inputs: a length and letters, or one number alone.
 
 ghost use mathlib.Core.Path.{_≡_};
 ghost use mathlib.Core.Bool.{true, cond};
@@ -8,7 +8,7 @@ ghost use lib.Dec.{leb};
 ghost use Rattle.octets.specs.Lists.{all};
 ghost use Rattle.machine.specs.Limits.{longest};
 ghost use Rattle.script.specs.Input.{line, behind, isDigit, isLetter, value, decimal};
-ghost use Rattle.script.specs.Script.{scriptOf};
+ghost use Rattle.script.specs.Script.{scriptOf, numberOf};
 
 pub enum Script {
     // No input: nothing is shown.
@@ -156,4 +156,20 @@ pub fn parse(input: &[u8]) -> Script
         return Script::Refused;
     }
     Script::Given(length, start, count)
+}
+
+// The number of an input that is one decimal alone; 32,501 for any that is more than 32,500, and for any
+// other input.
+pub fn one_number(input: &[u8]) -> usize
+    ensures { λ r. ⌜ r ≡ numberOf (now (input .entry)) ⌝ }
+{
+    let first = line_length(input);
+    if line_end(input, first) < input.len() {
+        return TOO_LONG;
+    }
+    let line = &input[..first];
+    if !is_decimal(line) {
+        return TOO_LONG;
+    }
+    number(line)
 }

@@ -27,7 +27,8 @@ typedef struct {
     uint64_t pieces;
 } socketlemon_answer;
 
-/* The refusals, by the trade words of docs/PROTOCOL.md, which says when each is answered; how many there are. */
+/* The refusals, by the trade words of docs/PROTOCOL.md, which says when each is answered; how many there are.
+ * SOCKETLEMON_NO_CUTS is the program `cuts`'s: no call of this header answers it. */
 #define SOCKETLEMON_BAD_FRAME 1
 #define SOCKETLEMON_SHORT_OUTPUT 2
 #define SOCKETLEMON_BAD_RULES 3
@@ -57,7 +58,8 @@ typedef struct {
 #define SOCKETLEMON_SHORT_FRAME 27
 #define SOCKETLEMON_SOURCE_FULL 28
 #define SOCKETLEMON_BAD_LENGTHS 29
-#define SOCKETLEMON_REFUSALS 29
+#define SOCKETLEMON_NO_CUTS 30
+#define SOCKETLEMON_REFUSALS 30
 
 /* The bytes of a store with `cells` cells, 1 to 45. */
 #define SOCKETLEMON_STORE_BYTES(cells) (16 + 8 * 328 + 1380 * (size_t)(cells))

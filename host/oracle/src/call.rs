@@ -166,6 +166,7 @@ pub const BAD_CALENDAR: u64 = 26;
 pub const SHORT_FRAME: u64 = 27;
 pub const SOURCE_FULL: u64 = 28;
 pub const BAD_LENGTHS: u64 = 29;
+pub const NO_CUTS: u64 = 30;
 
 /// What the original put out after a call.
 #[derive(Clone, Debug, PartialEq, Eq, Default)]
@@ -205,6 +206,6 @@ impl Got {
 
     /// Whether the number is one that the original does not have: such a call is outside the comparison.
     pub fn is_added_refusal(&self) -> bool {
-        matches!(self.number, 1..=3 | 6 | 7 | NO_CELL | 22..=BAD_LENGTHS)
+        matches!(self.number, 1..=3 | 6 | 7 | NO_CELL | 22..=NO_CUTS)
     }
 }

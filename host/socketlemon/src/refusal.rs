@@ -65,12 +65,14 @@ pub enum Refusal {
     SourceFull,
     /// 29: a key of the keyed hash is not 32 bytes long, or an output is longer than 65,536.
     BadLengths,
+    /// 30: no length of which the cuts are listed. The program `cuts` has it; no call of this crate answers it.
+    NoCuts,
     /// A number that this crate has no name for. The library has none such; a newer one might.
     Other(u64),
 }
 
 /// Each refusal with its trade word; the first is number 1.
-const TABLE: [(Refusal, &str); 29] = [
+const TABLE: [(Refusal, &str); 30] = [
     (Refusal::BadFrame, "bad frame"),
     (Refusal::ShortOutput, "short output"),
     (Refusal::BadRules, "bad rules"),
@@ -100,6 +102,7 @@ const TABLE: [(Refusal, &str); 29] = [
     (Refusal::ShortFrame, "short frame"),
     (Refusal::SourceFull, "source full"),
     (Refusal::BadLengths, "bad lengths"),
+    (Refusal::NoCuts, "no cuts"),
 ];
 
 impl Refusal {
@@ -112,7 +115,7 @@ impl Refusal {
         Some(row.map_or(Refusal::Other(number), |(refusal, _)| *refusal))
     }
 
-    /// Its number, 1 to 29.
+    /// Its number, 1 to 30.
     pub fn number(self) -> u64 {
         match (self, self.row()) {
             (Refusal::Other(number), _) => number,
@@ -141,7 +144,7 @@ mod tests {
     use super::*;
 
     /// The trade words of docs/PROTOCOL.md, copied from there and not from the code.
-    const WORDS: [&str; 29] = [
+    const WORDS: [&str; 30] = [
         "bad frame",
         "short output",
         "bad rules",
@@ -171,6 +174,7 @@ mod tests {
         "short frame",
         "source full",
         "bad lengths",
+        "no cuts",
     ];
 
     #[test]

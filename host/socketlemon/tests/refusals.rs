@@ -1,6 +1,6 @@
 //! Each refusal but the 26th and those from the 28th on, brought about by a call; none of them changes a
 //! store or a buffer. A `Calendar` is never refused: the tests of its module bring about 26, with bytes that
-//! are none. 28 and 29 have files of their own, `sources.rs` and `sums.rs`.
+//! are none. 28 and 29 have files of their own, `sources.rs` and `sums.rs`; 30 is the program `cuts`'s.
 
 mod common;
 

@@ -1,5 +1,5 @@
 #!/usr/bin/env python3
-"""Which files of definitions have to be believed: those that the contracts of the exports, of the plain sum's line and of the classroom and the statements of the
+"""Which files of definitions have to be believed: those that the contracts of the exports, of the programs' texts and the statements of the
 top theorems rest on, and what these rest on in turn. Makes docs/TRUSTED.md.
 
 Use: tools/trusted.py           print the page
@@ -15,8 +15,8 @@ import sys
 ROOT = os.path.join(os.path.dirname(os.path.abspath(__file__)), "..")
 PAGE = "docs/TRUSTED.md"
 
-# what the customer's demands are met by: the contracts of the exports, of the plain sum's line and of the classroom, and theorems by the crate and file that prove them
-CONTRACTS = ("crates/socketlemon/src/lib.rt", "crates/sums/src/line.rt", "crates/lesson/src/show.rt")
+# what the customer's demands are met by: the contracts of the exports, of what the programs plain_sum, classroom and cuts write, and theorems by the crate and file that prove them
+CONTRACTS = ("crates/socketlemon/src/lib.rt", "crates/sums/src/line.rt", "crates/lesson/src/show.rt", "crates/cutter/src/lib.rt")
 THEOREMS = {
     ("ledger", "DemandLaws"): ["demand3"],
     ("ledger", "InOrderLaws"): ["takes-give"],
@@ -28,6 +28,10 @@ THEOREMS = {
     ("ledger", "UntouchedLaws"): ["send-untouched", "recv-untouched"],
     ("address", "AddressLaws"): ["address-refused"],
     ("sums", "SumsLaws"): ["keyed-hash-refused", "derive-key-refused"],
+    ("kept", "ExactlyLaws"): ["kept-exactly", "made-whole", "joined-cells"],
+    ("cutter", "CutsLaws"): ["each-once", "rises-cuts"],
+    ("cutter", "WholeLaws"): ["cuts-whole"],
+    ("cutter", "TextLaws"): ["cuts-refused"],
     ("machine", "StarredLaws"): ["starred-hold"],
     ("lesson", "SettledLaws"): ["settled-empty", "pushed-empty", "round-empty"],
 }
@@ -136,7 +140,7 @@ def reached(found):
     return done, enums
 
 
-ORDER = ["octets", "answer", "blake3", "packet", "topic", "calendar", "address", "sums", "machine", "ledger", "script", "link", "lesson"]
+ORDER = ["octets", "answer", "blake3", "packet", "topic", "calendar", "address", "sums", "machine", "ledger", "kept", "script", "link", "lesson", "cutter"]
 
 
 def page(found, done, enums):
@@ -144,8 +148,8 @@ def page(found, done, enums):
     lines = sum(found[f].lines for f in files)
     text = ["# What has to be believed", "",
             "Made by `tools/trusted.py`; the gate compares it with the sources.",
-            "The contracts of the exports (`crates/socketlemon/src/lib.rt`), of the plain sum's line",
-            "(`crates/sums/src/line.rt`) and of the classroom (`crates/lesson/src/show.rt`),",
+            "The contracts of the exports (`crates/socketlemon/src/lib.rt`) and of what the programs `plain_sum`,",
+            "`classroom` and `cuts` write (`crates/{sums/src/line,lesson/src/show,cutter/src/lib}.rt`),",
             "and the top theorems that [PROOFS](PROOFS.md) names,",
             "rest on the definitions of these files and on no others.",
             "None of them states a law: laws stand in files whose names end in `Laws`, and in crates of laws.",

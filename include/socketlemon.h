@@ -28,7 +28,7 @@ typedef struct {
 } socketlemon_answer;
 
 /* The refusals, by the trade words of docs/PROTOCOL.md, which says when each is answered; how many there are.
- * SOCKETLEMON_NO_CUTS is the program `cuts`'s: no call of this header answers it. */
+ * No call of this header answers NO_CUTS: it is for the program `cuts`. */
 #define SOCKETLEMON_BAD_FRAME 1
 #define SOCKETLEMON_SHORT_OUTPUT 2
 #define SOCKETLEMON_BAD_RULES 3

@@ -5,7 +5,7 @@
  * what its calendar says, and which pieces it sends, counts and stamps, by the models here, which share nothing with the library.
  * Of a keyed or derived sum: which lengths are refused, and every byte, by a model of BLAKE3.
  * Use: fuzz [SEED [ROUNDS [all]]]; under valgrind it also shows that nothing outside the buffers is touched, for each lies in an
- * allocation of its own. Exits with 0 if every answer was right and, with `all`, every refusal was met, both kinds of inits of a
+ * allocation of its own. Exits with 0 if every answer was right and, with `all`, every refusal of a call was met, both kinds of inits of a
  * message with pieces, frames of each kind at and around what they need, pieces of sources at their limit and below it, every way to
  * spoil a calendar, wakes that would have sent something, within hours and outside, wakes with more to send
  * than they may, and sums of each way with lengths at and around their bounds. */
@@ -65,10 +65,10 @@ static void expect(const char *what, int right) {
     }
 }
 
-/* How many refusals calls can answer: all but the one of the program `cuts`. */
-#define ANSWERABLE (SOCKETLEMON_REFUSALS - 1)
+/* The refusals that calls answer: all but NO_CUTS, which is the program cuts's. */
+enum { REFUSALS_OF_CALLS = SOCKETLEMON_REFUSALS - 1 };
 
-/* Whether a number is one of docs/PROTOCOL.md's that a call can answer; it is noted as met. */
+/* Whether a number is one of docs/PROTOCOL.md's that calls answer; it is noted as met. */
 static int known(uint64_t number) {
     if (number > SOCKETLEMON_REFUSALS || number == SOCKETLEMON_NO_CUTS) return 0;
     met[number] = 1;
@@ -830,8 +830,8 @@ int main(int argc, char **argv) {
     for (int number = 1; number <= SOCKETLEMON_REFUSALS; number++) refusals += met[number];
     unsigned long ways = 0;
     for (int way = 0; way < WAYS; way++) ways += spoiled[way] > 0;
-    printf("%lu answers right, %lu wrong; refusals of calls: %d of %d met; inits of messages with pieces: %lu equal, %lu others\n", passed, failed, refusals,
-           ANSWERABLE, equal_inits, other_inits);
+    printf("%lu answers right, %lu wrong; refusals of calls met: %d of %d; inits of messages with pieces: %lu equal, %lu others\n", passed, failed, refusals,
+           REFUSALS_OF_CALLS, equal_inits, other_inits);
     unsigned long edges_met = 0, lengths_met = 0;
     for (int i = 0; i < KINDS * EDGES; i++) edges_met += edges[i / EDGES][i % EDGES] > 0;
     for (int i = 0; i < LENGTHS; i++) lengths_met += at_length[i] > 0;
@@ -848,6 +848,6 @@ int main(int argc, char **argv) {
     int wakes = shut_wakes && open_wakes && full_wakes && mixed_wakes && aged_wakes;
     int frames = edges_met == KINDS * EDGES && lengths_met == LENGTHS && huge_sizes && rests;
     int others = equal_inits && other_inits && shares_met == SHARES && ways == WAYS;
-    int all = all_sums_met() && wakes && frames && others && refusals == ANSWERABLE;
+    int all = all_sums_met() && wakes && frames && others && refusals == REFUSALS_OF_CALLS;
     return failed != 0 || (wants_all && !all);
 }

@@ -65,7 +65,7 @@ pub enum Refusal {
     SourceFull,
     /// 29: a key of the keyed hash is not 32 bytes long, or an output is longer than 65,536.
     BadLengths,
-    /// 30: no length of which the cuts are listed. The program `cuts` has it; no call of this crate answers it.
+    /// 30: a length of the program `cuts` is not a multiple of 250 from 250 to 3,000. No call answers it.
     NoCuts,
     /// A number that this crate has no name for. The library has none such; a newer one might.
     Other(u64),
@@ -194,7 +194,7 @@ mod tests {
 
     #[test]
     fn other_numbers_have_words_too() {
-        for n in [30, 255, u64::MAX] {
+        for n in [31, 255, u64::MAX] {
             let refusal = Refusal::from_number(n).expect("a refusal");
             assert_eq!(refusal, Refusal::Other(n));
             assert_eq!(refusal.number(), n);

@@ -74,6 +74,8 @@ pub const BAD_LENGTHS: u64 = 29;
 
 pub const NO_CUTS: u64 = 30;
 
+pub const NO_PLAN: u64 = 31;
+
 // A refusal: nothing is sent, nobody wakes.
 pub fn refuse(number: u64) -> Answer
     ensures { λ r. ⌜ r ≡ bare number ⌝ }

@@ -95,6 +95,9 @@ badLengths = 29
 abbrev pub noCuts : ℕ
 noCuts = 30
 
+abbrev pub noPlan : ℕ
+noPlan = 31
+
 -- ---- marks, roles, kinds, states
 
 -- a number that means yes or no is yes when it is not 0

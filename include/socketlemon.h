@@ -59,7 +59,8 @@ typedef struct {
 #define SOCKETLEMON_SOURCE_FULL 28
 #define SOCKETLEMON_BAD_LENGTHS 29
 #define SOCKETLEMON_NO_CUTS 30
-#define SOCKETLEMON_REFUSALS 30
+#define SOCKETLEMON_NO_PLAN 31
+#define SOCKETLEMON_REFUSALS 31
 
 /* The bytes of a store with `cells` cells, 1 to 45. */
 #define SOCKETLEMON_STORE_BYTES(cells) (16 + 8 * 328 + 1380 * (size_t)(cells))
@@ -90,6 +91,9 @@ typedef struct {
 /* The bytes of a key of the keyed hash, and the most that keyed hash and key derivation put out. */
 #define SOCKETLEMON_SUM_KEY 32
 #define SOCKETLEMON_LONGEST_SUM 65536
+
+/* The least bytes of a plan's buffer: room for the sizes of SOCKETLEMON_SOURCE_CELLS pieces, 2 bytes each. */
+#define SOCKETLEMON_PLAN (2 * SOCKETLEMON_SOURCE_CELLS)
 
 /* Makes a store fresh, in a role. */
 socketlemon_answer socketlemon_setup(uint8_t *store, size_t store_len, uint64_t role);
@@ -142,6 +146,15 @@ socketlemon_answer socketlemon_keyed_hash(const uint8_t *key, size_t key_len, co
  * lengths) before any byte is read. */
 socketlemon_answer socketlemon_derive_key(const uint8_t *context, size_t context_len, const uint8_t *material,
                                           size_t material_len, uint8_t *out, size_t out_len);
+
+/* Plans a message of `length` bytes, to 32,500, in so many pieces: sizes of 0 to 1,364 bytes that a fresh
+ * receiver of 45 cells, topic open and source's key known, keeps at the indexes from 0 on, each from where the
+ * one before it ends, and then finishes by a done with that number as count. Of all such lists it is the one
+ * with the greatest first size, of these the one with the greatest second, and so on. The sizes, 2 bytes each,
+ * big-endian, go to the start of `out`, which has at least SOCKETLEMON_PLAN bytes; the answer's `run` says how
+ * many bytes they take, and those behind them stay. Where there is no such list, or the message is longer, it
+ * is refused (no plan). */
+socketlemon_answer socketlemon_plan(uint64_t length, uint64_t pieces, uint8_t *out, size_t out_len);
 
 #ifdef __cplusplus
 }

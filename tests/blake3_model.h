@@ -1,5 +1,5 @@
-/* BLAKE3 in the words of its specification, and slowly: the model that fuzz.c has beside the library's sums.
- * It shares nothing with the library. */
+/* BLAKE3 in the words of its specification, and slowly: the model that fuzz.c has beside the library's sums, and
+ * from which exports.c has the sums of its longer messages. It shares nothing with the library. */
 #ifndef BLAKE3_MODEL_H
 #define BLAKE3_MODEL_H
 
@@ -112,20 +112,25 @@ static void model_sum(const uint32_t *key, uint32_t mode, const uint8_t *bytes, 
 }
 
 /* The same under a key of 32 bytes. */
-static void model_sum_by(const uint8_t *key, uint32_t mode, const uint8_t *bytes, size_t len, uint8_t *out,
-                         size_t out_len) {
+static inline void model_sum_by(const uint8_t *key, uint32_t mode, const uint8_t *bytes, size_t len,
+                                uint8_t *out, size_t out_len) {
     uint32_t words[8];
     for (int i = 0; i < 8; i++) words[i] = model_word(key + 4 * i);
     model_sum(words, mode, bytes, len, out, out_len);
 }
 
-static void model_keyed_hash(const uint8_t *key, const uint8_t *bytes, size_t len, uint8_t *out,
-                             size_t out_len) {
+/* The sum that packets carry. */
+static inline void model_plain_sum(const uint8_t *bytes, size_t len, uint8_t out[32]) {
+    model_sum(model_iv, 0, bytes, len, out, 32);
+}
+
+static inline void model_keyed_hash(const uint8_t *key, const uint8_t *bytes, size_t len, uint8_t *out,
+                                    size_t out_len) {
     model_sum_by(key, KEYED_HASH, bytes, len, out, out_len);
 }
 
-static void model_derive_key(const uint8_t *context, size_t context_len, const uint8_t *bytes, size_t len,
-                             uint8_t *out, size_t out_len) {
+static inline void model_derive_key(const uint8_t *context, size_t context_len, const uint8_t *bytes,
+                                    size_t len, uint8_t *out, size_t out_len) {
     uint8_t key[32];
     model_sum(model_iv, DERIVE_CONTEXT, context, context_len, key, sizeof key);
     model_sum_by(key, DERIVE_MATERIAL, bytes, len, out, out_len);

@@ -1,12 +1,13 @@
 /* Calls every export of the library from C, on a message of one piece that goes from a tablet to the office; then inits of a message
  * that has arrived in part, wakes within and outside of sending hours, wakes of a message of ten pieces,
- * frames of every length, cells by source, and keyed and derived sums.
+ * frames of every length, cells by source, keyed and derived sums, and plans, which a fresh office keeps.
  * Exits with 0 and a last line 'N passed, 0 failed' if every answer is the expected one. */
 #define _DEFAULT_SOURCE /* for memory that nobody may read */
 #include <stdio.h>
 #include <string.h>
 #include <sys/mman.h>
 
+#include "blake3_model.h"
 #include "socketlemon.h"
 
 enum { STORE = SOCKETLEMON_STORE_BYTES(4) };
@@ -560,6 +561,112 @@ static void sums(void) {
     expect("bad lengths before anything is read", is_refused_unread());
 }
 
+/* A plan's buffer with room for a size more, all 0xee before; the survey whose beginnings plans send. */
+enum { LARGEST_PIECE = 1364 };
+static uint8_t planned[SOCKETLEMON_PLAN + 2], survey[LONGEST];
+
+static socketlemon_answer plan(uint64_t length, uint64_t pieces, size_t out_len) {
+    memset(planned, 0xee, sizeof planned);
+    return socketlemon_plan(length, pieces, planned, out_len);
+}
+
+/* Whether nothing was written from here on. */
+static int is_unplanned(size_t from) {
+    while (from < sizeof planned && planned[from] == 0xee) from++;
+    return from == sizeof planned;
+}
+
+static uint64_t planned_size(uint64_t index) { return planned[2 * index] * 256u + planned[2 * index + 1]; }
+
+/* Whether the plan is so many of the largest pieces, then the rest, then zeros, with nothing behind them. */
+static int is_plan(socketlemon_answer a, uint64_t pieces, uint64_t largest, uint64_t rest) {
+    int right = answers(a, 0, 2 * pieces, 0) && is_unplanned(2 * pieces);
+    for (uint64_t i = 0; right && i < pieces; i++)
+        right = planned_size(i) == (i < largest ? LARGEST_PIECE : i == largest ? rest : 0);
+    return right;
+}
+
+/* Whether the wide office does a packet of these flags, first number and tail, and replies so many bytes. */
+static int does(uint8_t flags, uint64_t first, const uint8_t *tail, size_t len, uint64_t reply_len) {
+    memset(frame, 0, sizeof frame);
+    memcpy(frame, id, sizeof id);
+    frame[8] = flags;
+    put_number(frame + 12, first);
+    memcpy(frame + 20, tail, len);
+    socketlemon_answer a = socketlemon_packet(wide, WIDE, unused_send, STORE, frame, 20 + len, there, here,
+                                              rules, 1, 1, reply, sizeof reply);
+    return answers(a, 0, reply_len, 0);
+}
+
+/* The same of a piece of the survey. */
+static int keeps_piece(uint64_t index, uint64_t offset, uint64_t size) {
+    static uint8_t tail[16 + LARGEST_PIECE];
+    put_number(tail, offset), put_number(tail + 8, size);
+    memcpy(tail + 16, survey + offset, size);
+    return does(CHUNK_FLAG, index, tail, 16 + size, 34 + 36);
+}
+
+/* Whether a fresh office of 45 cells keeps and finishes what was planned last, and then hands it out. */
+static int is_kept(uint64_t length, uint64_t pieces) {
+    static const uint8_t no_topic[1];
+    uint8_t whole_sum[32];
+    uint64_t offset = 0;
+    int right = answers(socketlemon_setup(wide, WIDE, SOCKETLEMON_RECEIVE), 0, 0, 0) &&
+                does(INIT_FLAG, length, no_topic, sizeof no_topic, 34 + 21);
+    for (uint64_t i = 0; right && i < pieces; offset += planned_size(i++))
+        right = offset + planned_size(i) <= length && keeps_piece(i, offset, planned_size(i));
+    model_plain_sum(survey, length, whole_sum);
+    right = right && offset == length && does(DONE_FLAG, pieces, whole_sum, sizeof whole_sum, 34 + 52);
+    memset(data, 0xee, sizeof data);
+    return right && takes(0) && memcmp(data + RECORD, survey, length) == 0;
+}
+
+/* Whether there is this plan, and it is kept. */
+static int plans(uint64_t length, uint64_t pieces, uint64_t largest, uint64_t rest) {
+    return is_plan(plan(length, pieces, SOCKETLEMON_PLAN), pieces, largest, rest) && is_kept(length, pieces);
+}
+
+/* Whether a plan is refused with a number, and nothing was written. */
+static int is_no_plan(uint64_t number, uint64_t length, uint64_t pieces, size_t out_len) {
+    return answers(plan(length, pieces, out_len), number, 0, 0) && is_unplanned(0);
+}
+
+static int has_none(uint64_t length, uint64_t pieces) {
+    return is_no_plan(SOCKETLEMON_NO_PLAN, length, pieces, SOCKETLEMON_PLAN);
+}
+
+/* Plans, by lengths and numbers of pieces; each of them is kept. Then their buffer. */
+static void numbers_of_pieces(void) {
+    const size_t room = SOCKETLEMON_PLAN;
+    for (size_t i = 0; i < sizeof survey; i++) survey[i] = (uint8_t)(i * 31 + i / 251);
+    expect("no bytes in no piece, and in one", plans(0, 0, 0, 0) && plans(0, 1, 0, 0) && has_none(0, 2));
+    expect("one byte in one piece", has_none(1, 0) && plans(1, 1, 0, 1) && has_none(1, 2));
+    expect("two pieces from 251 bytes on",
+           has_none(250, 2) && plans(251, 2, 0, 251) && plans(500, 2, 0, 500) && has_none(500, 3));
+    expect("one piece up to 1,300",
+           plans(1300, 1, 0, 1300) && has_none(1301, 1) && plans(1301, 2, 0, 1301));
+    expect("1,364 in a piece", has_none(1364, 1) && plans(1364, 2, 0, 1364) && plans(1365, 2, 1, 1));
+    expect("30 pieces from 7,251 bytes on",
+           plans(7250, 29, 5, 430) && has_none(7250, 30) && plans(7251, 30, 5, 431));
+    expect("the longest message", has_none(LONGEST, 24) && plans(LONGEST, 25, 23, 1128) &&
+                                          plans(LONGEST, 30, 23, 1128) && has_none(LONGEST, 31));
+    expect("none for a byte more", has_none(LONGEST + 1, 0) && has_none(LONGEST + 1, 25) &&
+                                           has_none(LONGEST + 1, 26) && has_none(LONGEST + 1, 30));
+    expect("none for numbers near 2^64", has_none(UINT64_MAX, 1) && has_none(UINT64_MAX, UINT64_MAX) &&
+                                                 has_none(LONGEST, UINT64_MAX) && has_none(0, UINT64_MAX));
+    expect("59 bytes are too few, also for none",
+           is_no_plan(SOCKETLEMON_SHORT_OUTPUT, LONGEST, 30, room - 1) &&
+                   is_no_plan(SOCKETLEMON_SHORT_OUTPUT, 0, 0, room - 1) &&
+                   is_no_plan(SOCKETLEMON_SHORT_OUTPUT, 0, 1, 0));
+    expect("60 are enough, and 61", is_plan(plan(0, 0, room), 0, 0, 0) &&
+                                            is_plan(plan(LONGEST, 30, room), 30, 23, 1128) &&
+                                            is_plan(plan(LONGEST, 30, room + 1), 30, 23, 1128));
+    expect("room for 31 sizes makes no plan of 31", is_no_plan(SOCKETLEMON_NO_PLAN, LONGEST, 31, room + 2));
+    expect("2 before 31", is_no_plan(SOCKETLEMON_SHORT_OUTPUT, 250, 2, room - 1) &&
+                                  is_no_plan(SOCKETLEMON_SHORT_OUTPUT, LONGEST + 1, 31, room - 1) &&
+                                  is_no_plan(SOCKETLEMON_NO_PLAN, 250, 2, room + 1));
+}
+
 int main(void) {
     static const uint8_t message[300] = {42};
     uint8_t key[32] = {7};
@@ -613,6 +720,7 @@ int main(void) {
     frames();
     sources();
     sums();
+    numbers_of_pieces();
     printf("%d passed, %d failed\n", passed, failed);
     return failed != 0;
 }

@@ -4,11 +4,13 @@
  * came, and that no more was read. Of a chunk: its number, by the cells that its source holds and by those that are free. Of a wake:
  * what its calendar says, and which pieces it sends, counts and stamps, by the models here, which share nothing with the library.
  * Of a keyed or derived sum: which lengths are refused, and every byte, by a model of BLAKE3.
+ * Of a plan: its sizes, or that there is none, by a model of what a receiver keeps.
  * Use: fuzz [SEED [ROUNDS [all]]]; under valgrind it also shows that nothing outside the buffers is touched, for each lies in an
  * allocation of its own. Exits with 0 if every answer was right and, with `all`, every refusal of a call was met, both kinds of inits of a
  * message with pieces, frames of each kind at and around what they need, pieces of sources at their limit and below it, every way to
  * spoil a calendar, wakes that would have sent something, within hours and outside, wakes with more to send
- * than they may, and sums of each way with lengths at and around their bounds. */
+ * than they may, sums of each way with lengths at and around their bounds, and plans of as few and as many pieces
+ * as there can be, one piece fewer and one more. */
 #include <stdio.h>
 #include <stdlib.h>
 #include <string.h>
@@ -799,6 +801,90 @@ static int all_sums_met(void) {
     return lengths_met == TO_MEET;
 }
 
+/* How often plans were asked for with which number of pieces: as few as there can be, as many, between them; one
+ * too few, one too many, any other; of a message that is too long; and with a buffer that is too short. */
+enum { FEWEST, MOST, BETWEEN, ONE_TOO_FEW, ONE_TOO_MANY, OTHER_NUMBER, LONG_MESSAGE, SHORT_BUFFER, PLANS };
+static unsigned long plans[PLANS];
+
+/* The sizes for a number of pieces, each as large as a frame and what is left allow; whether a fresh receiver,
+ * in the words of documents 01 and 02, keeps them at rising indexes and takes a done with that count. */
+static int model_plan(uint64_t length, uint64_t pieces, unsigned *sizes) {
+    uint64_t left = length, top = length ? (length + 249) / 250 - 1 : 0, slots = (length + 1299) / 1300;
+    if (length > 32500 || pieces > SOCKETLEMON_SOURCE_CELLS) return 0;
+    for (uint64_t index = 0; index < pieces; index++) {
+        sizes[index] = left < 1364 ? (unsigned)left : 1364;
+        left -= sizes[index];
+        if (index > top || (sizes[index] < 250 && index != top && left != 0)) return 0;
+    }
+    return left == 0 && pieces >= slots;
+}
+
+/* Which of the numbers above these are. */
+static int plan_of(uint64_t length, uint64_t pieces, size_t out_len) {
+    unsigned sizes[SOCKETLEMON_SOURCE_CELLS];
+    if (out_len < SOCKETLEMON_PLAN) return SHORT_BUFFER;
+    if (length > 32500) return LONG_MESSAGE;
+    int fewer = pieces > 0 && model_plan(length, pieces - 1, sizes);
+    int more = pieces < UINT64_MAX && model_plan(length, pieces + 1, sizes);
+    if (model_plan(length, pieces, sizes)) return !fewer ? FEWEST : !more ? MOST : BETWEEN;
+    return more ? ONE_TOO_FEW : fewer ? ONE_TOO_MANY : OTHER_NUMBER;
+}
+
+/* A length at which the number of pieces may change, or any, now and then one that no message has. */
+static uint64_t pick_plan_length(void) {
+    switch (below(8)) {
+    case 0: return 32500 + below(3);
+    case 1: return next() >> below(64);
+    case 2: return below(32501);
+    case 3: return below(1500);
+    case 4: return 1364 * (1 + below(23)) - 1 + below(3);
+    case 5: return 1300 * below(26) + below(2);
+    default: return 250 * below(131) + below(2);
+    }
+}
+
+/* A number of pieces: near as few or as many as there can be, or any. */
+static uint64_t pick_number_of_pieces(uint64_t length) {
+    switch (below(8)) {
+    case 0: return next() >> below(64);
+    case 1: return length / 250 + below(3);
+    case 2:
+    case 3: return length / 1300 + below(3);
+    default: return below(34);
+    }
+}
+
+/* A plan: its number and its sizes by the model; what is behind them, and all of a refused one, stays. */
+static void one_plan(void) {
+    unsigned sizes[SOCKETLEMON_SOURCE_CELLS];
+    uint64_t length = pick_plan_length(), pieces = pick_number_of_pieces(length);
+    buffer out = make(around(SOCKETLEMON_PLAN + below(2), 80));
+    int which = plan_of(length, pieces, out.len), is_made = which <= BETWEEN;
+    plans[which]++;
+    keep(out);
+    socketlemon_answer a = socketlemon_plan(length, pieces, out.at, out.len);
+    uint64_t refusal = which == SHORT_BUFFER ? SOCKETLEMON_SHORT_OUTPUT : SOCKETLEMON_NO_PLAN;
+    expect("the number of a plan", known(a.number) && a.number == (is_made ? 0 : refusal));
+    expect("the run of a plan", a.run == (is_made ? 2 * pieces : 0) && a.wake == 0 && a.pieces == 0);
+    if (is_made && model_plan(length, pieces, sizes))
+        for (uint64_t i = 0; i < pieces; i++) put_pair(out.was + 2 * i, sizes[i]);
+    expect(is_made ? "the sizes of a plan" : "a refused plan", same_from(out, 0));
+    drop(out);
+}
+
+/* Tells of the plans; whether each kind of number was met. */
+static int all_plans_met(void) {
+    unsigned long met_kinds = 0, made = 0, refused = 0;
+    for (int which = 0; which < PLANS; which++) {
+        met_kinds += plans[which] > 0;
+        if (which <= BETWEEN) made += plans[which];
+        else refused += plans[which];
+    }
+    printf("plans beside the model: %lu made, %lu refused; numbers of pieces around their bounds: %lu of %d met\n",
+           made, refused, met_kinds, PLANS);
+    return met_kinds == PLANS;
+}
+
 static void sequence(void) {
     size_t cells = below(4) ? 1 + below(45) : 45;
     buffer stores[2] = {make(SOCKETLEMON_STORE_BYTES(cells)), make(SOCKETLEMON_STORE_BYTES(1 + below(45)))};
@@ -814,6 +900,7 @@ static void sequence(void) {
     if (below(4) == 0) crowd(stores);
     for (size_t calls = below(120); calls > 0; calls--) one_call(stores);
     for (size_t calls = below(4); calls > 0; calls--) one_sum();
+    for (size_t calls = below(8); calls > 0; calls--) one_plan();
     /* then a few calls on stores that somebody else has written to */
     for (size_t hits = 1 + below(4); hits > 0; hits--) {
         buffer hit = stores[below(2)];
@@ -848,6 +935,7 @@ int main(int argc, char **argv) {
     int wakes = shut_wakes && open_wakes && full_wakes && mixed_wakes && aged_wakes;
     int frames = edges_met == KINDS * EDGES && lengths_met == LENGTHS && huge_sizes && rests;
     int others = equal_inits && other_inits && shares_met == SHARES && ways == WAYS;
-    int all = all_sums_met() && wakes && frames && others && refusals == REFUSALS_OF_CALLS;
+    int sums_met = all_sums_met(), plans_met = all_plans_met();
+    int all = sums_met && plans_met && wakes && frames && others && refusals == REFUSALS_OF_CALLS;
     return failed != 0 || (wants_all && !all);
 }

@@ -11,6 +11,7 @@ ghost use Rattle.machine.specs.Push.{pushOf};
 ghost use Rattle.machine.specs.Wake.{wakeOf};
 ghost use Rattle.machine.specs.Report.{reportOf};
 ghost use Rattle.machine.specs.Take.{takeOf};
+ghost use Rattle.planner.specs.Plan.{planOf};
 
 // Makes the store fresh, in a role: 1 to receive, 2 to send.
 #[no_mangle]
@@ -161,4 +162,12 @@ pub extern "C" fn socketlemon_derive_key(context: &[u8], material: &[u8], out: &
 {
     let number = sums::derive_key(context, material, out);
     answer::refuse(number)
+}
+
+// The sizes for a message of `total` bytes in `count` pieces, which a fresh receiver keeps and finishes, into `out`.
+#[no_mangle]
+pub extern "C" fn socketlemon_plan(total: u64, count: u64, out: &mut [u8]) -> Answer
+    ensures { λ r. ⌜ record { answer = r; out = now (out .exit) } ≡ planOf total count (now (out .entry)) ⌝ }
+{
+    planner::plan(total, count, out)
 }

@@ -167,6 +167,7 @@ pub const SHORT_FRAME: u64 = 27;
 pub const SOURCE_FULL: u64 = 28;
 pub const BAD_LENGTHS: u64 = 29;
 pub const NO_CUTS: u64 = 30;
+pub const NO_PLAN: u64 = 31;
 
 /// What the original put out after a call.
 #[derive(Clone, Debug, PartialEq, Eq, Default)]
@@ -206,6 +207,6 @@ impl Got {
 
     /// Whether the number is one that the original does not have: such a call is outside the comparison.
     pub fn is_added_refusal(&self) -> bool {
-        matches!(self.number, 1..=3 | 6 | 7 | NO_CELL | 22..=NO_CUTS)
+        matches!(self.number, 1..=3 | 6 | 7 | NO_CELL | 22..=NO_PLAN)
     }
 }

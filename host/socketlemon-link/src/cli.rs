@@ -31,6 +31,9 @@ pub enum Side {
     Archive(ArchiveCommand),
     /// Show why a survey is slow: a tablet and an office over a link that loses and repeats packets as told
     Classroom(ClassroomArgs),
+    /// Plan radio slots: the sizes of the pieces of a survey, by the number of pieces
+    #[command(after_help = "Exit status: 0 planned, 1 there is no such plan, 2 wrong usage.")]
+    Plan(PlanArgs),
     /// Show the key of a file and its address; the file is made if it is not there
     Key {
         /// The key file
@@ -179,6 +182,17 @@ eight pieces, or, when every piece has its reply, its done; the office replies w
   socketlemon-link classroom --file lesson.txt --page lesson.html     as a page for the lesson
 
 Exit status: 0 shown, 1 a file cannot be read or written, 2 wrong usage or a script of another form.";
+
+/// What to plan.
+#[derive(Debug, Args)]
+pub struct PlanArgs {
+    /// The survey's length in bytes, at most 32500
+    #[arg(long, value_name = "N")]
+    pub length: u64,
+    /// How many pieces it is sent in: a piece for each slot
+    #[arg(long, value_name = "K")]
+    pub pieces: u64,
+}
 
 /// A bad link, for trials; what this side sends goes through it.
 #[derive(Clone, Copy, Debug, Args)]

@@ -31,6 +31,7 @@ pub mod random;
 pub mod receipts;
 pub mod signals;
 pub mod silence;
+pub mod slots;
 pub mod strangers;
 pub mod surveys;
 pub mod tablet;

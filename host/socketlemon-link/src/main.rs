@@ -1,4 +1,4 @@
-//! The commands `tablet send`, `office listen`, `archive`, `classroom` and `key`.
+//! The commands `tablet send`, `office listen`, `archive`, `classroom`, `plan` and `key`.
 
 #![forbid(unsafe_code)]
 
@@ -9,7 +9,7 @@ use socketlemon_link::classroom::lesson::Lesson;
 use socketlemon_link::classroom::script::Script;
 use socketlemon_link::classroom::{page, terminal};
 use socketlemon_link::cli::{
-    self, ArchiveCommand, CheckArgs, ClassroomArgs, Cli, ListenArgs, OfficeCommand, SendArgs, Side,
+    self, ArchiveCommand, CheckArgs, ClassroomArgs, Cli, ListenArgs, OfficeCommand, PlanArgs, SendArgs, Side,
     TabletCommand,
 };
 use socketlemon_link::failure::Failure;
@@ -17,6 +17,7 @@ use socketlemon_link::hours;
 use socketlemon_link::keys::Key;
 use socketlemon_link::office::{Listen, Office};
 use socketlemon_link::signals::Signals;
+use socketlemon_link::slots;
 use socketlemon_link::tablet::{self, Ended, Send};
 use std::io::Write;
 use std::path::Path;
@@ -35,6 +36,7 @@ fn main() -> ExitCode {
         },
         Side::Archive(ArchiveCommand::Key { file }) => archive_key(&file),
         Side::Classroom(args) => classroom(args),
+        Side::Plan(args) => plan(&args),
         Side::Key { file } => key(&file),
     };
     match done {
@@ -77,6 +79,12 @@ fn archive_key(file: &Path) -> Result<(), Failure> {
 /// Checks archived surveys, and says whether all match.
 fn check(args: &CheckArgs) -> Result<bool, Failure> {
     archive::check(&args.folder, &ArchiveKey::of_file(&args.archive_key)?, |line| say(&line))
+}
+
+/// Shows the sizes of the pieces of a survey.
+fn plan(args: &PlanArgs) -> Result<(), Failure> {
+    say(&slots::plan(args.length, args.pieces)?);
+    Ok(())
 }
 
 fn send(args: SendArgs) -> Result<(), Failure> {

@@ -91,6 +91,7 @@ extern "C" {
         out: *mut u8,
         out_len: usize,
     ) -> Answer;
+    fn socketlemon_plan(length: u64, pieces: u64, out: *mut u8, out_len: usize) -> Answer;
 }
 
 pub(crate) fn setup(store: &mut [u8], role: u64) -> Answer {
@@ -239,4 +240,9 @@ pub(crate) fn derive_key(context: &[u8], material: &[u8], out: &mut [u8]) -> Ans
             out.len(),
         )
     }
+}
+
+pub(crate) fn plan(length: u64, pieces: u64, out: &mut [u8]) -> Answer {
+    // SAFETY: one live slice with its length, borrowed mutably.
+    unsafe { socketlemon_plan(length, pieces, out.as_mut_ptr(), out.len()) }
 }

@@ -4,6 +4,7 @@
 //! packets that a call hands back as a [`Run`]. The host owns sockets and clocks. A call gives a result or a [`Refusal`]; a refusal changes nothing.
 //! docs/PROTOCOL.md says what each call does.
 //! Surveys that are kept get sums that only key holders can make: see [`SumKey`].
+//! A sender with a given number of radio slots gets the sizes of its pieces from [`plan`].
 //!
 //! # A message from a tablet to the office
 //!
@@ -77,6 +78,7 @@ mod calendar;
 mod date;
 #[allow(unsafe_code)]
 mod ffi;
+mod plan;
 mod record;
 mod refusal;
 mod report;
@@ -88,6 +90,7 @@ mod sums;
 pub use address::{Address, Id};
 pub use calendar::{Calendar, CalendarError, LocalTime, Offset, Window};
 pub use date::{Date, Weekday};
+pub use plan::plan;
 pub use record::{Kind, Record, Taken};
 pub use refusal::Refusal;
 pub use report::{Report, State};
@@ -104,6 +107,9 @@ pub const MOST_BYTES: usize = 32_500;
 
 /// The bytes by which a pushed message is cut.
 pub const PIECE: usize = 1_300;
+
+/// The most bytes of a piece: what a frame has room for behind its header.
+pub const LARGEST_PIECE: usize = FRAME - 36;
 
 /// The run buffer that is enough for [`Store::packet`].
 pub const PACKET_RUN: usize = 86;

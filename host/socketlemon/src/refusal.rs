@@ -67,12 +67,14 @@ pub enum Refusal {
     BadLengths,
     /// 30: a length of the program `cuts` is not a multiple of 250 from 250 to 3,000. No call answers it.
     NoCuts,
+    /// 31: no list of so many sizes is kept and finished, or the message is longer than 32,500 bytes.
+    NoPlan,
     /// A number that this crate has no name for. The library has none such; a newer one might.
     Other(u64),
 }
 
 /// Each refusal with its trade word; the first is number 1.
-const TABLE: [(Refusal, &str); 30] = [
+const TABLE: [(Refusal, &str); 31] = [
     (Refusal::BadFrame, "bad frame"),
     (Refusal::ShortOutput, "short output"),
     (Refusal::BadRules, "bad rules"),
@@ -103,6 +105,7 @@ const TABLE: [(Refusal, &str); 30] = [
     (Refusal::SourceFull, "source full"),
     (Refusal::BadLengths, "bad lengths"),
     (Refusal::NoCuts, "no cuts"),
+    (Refusal::NoPlan, "no plan"),
 ];
 
 impl Refusal {
@@ -115,7 +118,7 @@ impl Refusal {
         Some(row.map_or(Refusal::Other(number), |(refusal, _)| *refusal))
     }
 
-    /// Its number, 1 to 30.
+    /// Its number, 1 to 31.
     pub fn number(self) -> u64 {
         match (self, self.row()) {
             (Refusal::Other(number), _) => number,
@@ -144,7 +147,7 @@ mod tests {
     use super::*;
 
     /// The trade words of docs/PROTOCOL.md, copied from there and not from the code.
-    const WORDS: [&str; 30] = [
+    const WORDS: [&str; 31] = [
         "bad frame",
         "short output",
         "bad rules",
@@ -175,6 +178,7 @@ mod tests {
         "source full",
         "bad lengths",
         "no cuts",
+        "no plan",
     ];
 
     #[test]
@@ -194,7 +198,7 @@ mod tests {
 
     #[test]
     fn other_numbers_have_words_too() {
-        for n in [31, 255, u64::MAX] {
+        for n in [32, 255, u64::MAX] {
             let refusal = Refusal::from_number(n).expect("a refusal");
             assert_eq!(refusal, Refusal::Other(n));
             assert_eq!(refusal.number(), n);

@@ -1,6 +1,6 @@
 //! Each refusal but the 26th and those from the 28th on, brought about by a call; none of them changes a
 //! store or a buffer. A `Calendar` is never refused: the tests of its module bring about 26, with bytes that
-//! are none. 28 and 29 have files of their own, `sources.rs` and `sums.rs`; 30 is the program `cuts`'s.
+//! are none. 28, 29 and 31 have files of their own, `sources.rs`, `sums.rs` and `plan.rs`; no call answers 30.
 
 mod common;
 

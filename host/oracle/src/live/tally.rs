@@ -301,7 +301,7 @@ fn cells(push: &Push) -> usize {
 #[cfg(test)]
 mod tests {
     use super::*;
-    use crate::call::{Wake, BAD_CALENDAR, BAD_LENGTHS, FRAME, NO_CUTS};
+    use crate::call::{Wake, BAD_CALENDAR, BAD_LENGTHS, FRAME, NO_CUTS, NO_PLAN};
 
     fn tally() -> Tally {
         Tally::new(&Setup { key: [0; 32], recv_cells: 2, send_cells: 3 })
@@ -346,10 +346,11 @@ mod tests {
         assert!([2, 8, 20, BAD_CALENDAR].iter().all(|number| !tally.has_reason(&wake, *number)));
         let calls =
             [wake, Call::Push(push(9, 0)), Call::Packet(packet(frame::init([9; 8], 0, 0, &[]))), Call::Take];
-        for (number, why) in
-            [(BAD_LENGTHS, "only sums have lengths that are bad"), (NO_CUTS, "only the cut list has none")]
-        {
-            assert!(calls.iter().all(|call| !tally.has_reason(call, number)), "{why}");
+        for number in [BAD_LENGTHS, NO_CUTS, NO_PLAN] {
+            assert!(
+                calls.iter().all(|call| !tally.has_reason(call, number)),
+                "only sums, cut lists and plans are refused with {number}"
+            );
         }
     }
 

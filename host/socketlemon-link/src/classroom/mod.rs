@@ -14,7 +14,7 @@ pub mod terminal;
 use crate::datagram::Content;
 
 /// A count with its word: `1 piece`, `2 pieces`.
-fn counted(count: usize, word: &str) -> String {
+pub(crate) fn counted(count: usize, word: &str) -> String {
     match count {
         1 => format!("1 {word}"),
         _ => format!("{count} {word}s"),

@@ -29,6 +29,8 @@ THEOREMS = {
     ("address", "AddressLaws"): ["address-refused"],
     ("sums", "SumsLaws"): ["keyed-hash-refused", "derive-key-refused"],
     ("kept", "ExactlyLaws"): ["kept-exactly", "made-whole", "joined-cells"],
+    ("planner", "PlanLaws"): ["plan-whole", "plan-greatest", "plan-none"],
+    ("planner", "AnswerLaws"): ["plan-short", "plan-long", "plan-number", "plan-refused"],
     ("cutter", "CutsLaws"): ["each-once", "rises-cuts"],
     ("cutter", "WholeLaws"): ["cuts-whole"],
     ("cutter", "TextLaws"): ["cuts-refused"],
@@ -140,7 +142,7 @@ def reached(found):
     return done, enums
 
 
-ORDER = ["octets", "answer", "blake3", "packet", "topic", "calendar", "address", "sums", "machine", "ledger", "kept", "script", "link", "lesson", "cutter"]
+ORDER = ["octets", "answer", "blake3", "packet", "topic", "calendar", "address", "sums", "machine", "ledger", "kept", "planner", "script", "link", "lesson", "cutter"]
 
 
 def page(found, done, enums):

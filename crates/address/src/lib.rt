@@ -1,5 +1,7 @@
 // A node's address, made of its public key: a port of `PublicKey::address`.
 
+#![tactic(auto)]
+
 ghost use Rattle.std.specs.Prelude.{◌≡◌, ◌<◌};
 ghost use Rattle.answer.specs.Answers.{bare};
 ghost use Rattle.address.specs.Address.{first_byte, address_of};

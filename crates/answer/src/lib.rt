@@ -1,6 +1,8 @@
 // What a call answers: the number (0: done, else a refusal of PROTOCOL's), the run's length, the wake mark and
 // how many piece packets a wake sent.
 
+#![tactic(auto)]
+
 ghost use Rattle.std.specs.Prelude.{◌≡◌};
 ghost use Rattle.answer.specs.Answers.{bare, sent, accepted};
 

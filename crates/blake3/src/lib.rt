@@ -2,6 +2,9 @@
 // `rounds` mixes words, `node` is the compression function, `tree` chunks and parents, `lanes` hashes four chunks at once,
 // and `output` writes what the root gives. Tree and output take the key words and the flag bits of a mode: each is proved
 // once, and the three modes are three uses of it.
+
+#![tactic(auto)]
+
 ghost use Rattle.std.specs.Prelude.{◌≡◌, ◌≤◌, length};
 ghost use Rattle.blake3.specs.Tree.{node, sum_by, plain, blake3};
 ghost use Rattle.blake3.specs.Modes.{key_len, key_words, keyed_hash, derived_key};

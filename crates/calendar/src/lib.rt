@@ -1,6 +1,9 @@
 // Sending hours: whether a time, in Unix milliseconds, lies within the hours of a calendar (bytes). Any bytes
 // and any time have an answer. A calendar has at most 32 dates, and the date of a day is computed and not
 // counted, so that an answer takes bounded time.
+
+#![tactic(auto)]
+
 pub mod days;
 mod form;
 mod time;

@@ -1,6 +1,8 @@
 // Every cut of a small survey: standard input has its length in decimal; a line for each cut goes to standard
 // output, or nothing where that is no length with a list.
 
+#![tactic(auto)]
+
 use libc::{STDIN_FILENO, STDOUT_FILENO};
 
 // A number up to 32,500 and its line feed have 6 bytes at most (`one-number-short` of crates/script): what

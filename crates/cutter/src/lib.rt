@@ -1,5 +1,7 @@
 // Every cut of a small survey as text: the sizes of its pieces, a line for each way to cut it.
 
+#![tactic(auto)]
+
 mod lines;
 
 ghost use Rattle.std.specs.Prelude.{◌≡◌};

@@ -2,6 +2,8 @@
 // message taken from it. A port of message.rs, `handle_message`. Each step is handed a sound store and
 // answers its number; a refusal changes nothing.
 
+#![tactic(auto)]
+
 pub mod aborted;
 pub mod chunk;
 pub mod done;

@@ -1,5 +1,7 @@
 // The classroom: one tablet and one office over a scripted link, and what is printed of it.
 
+#![tactic(auto)]
+
 mod room;
 mod run;
 mod show;

@@ -1,1 +1,3 @@
 // A crate of laws only: they stand in specs/.
+
+#![tactic(auto)]

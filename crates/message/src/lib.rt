@@ -2,6 +2,8 @@
 // and take. They ask nothing of their arguments: any bytes and numbers get an answer of PROTOCOL's, and a
 // refusal changes nothing.
 
+#![tactic(auto)]
+
 mod fresh;
 mod receive;
 mod send;

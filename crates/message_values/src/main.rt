@@ -2,6 +2,8 @@
 // which also says whether the stores are as they were, and warns where a buffer was changed past what was
 // written. tools/message_model.py computes the same lines from PROTOCOL without this library.
 
+#![tactic(auto)]
+
 mod acks;
 mod arrivals;
 mod ask;

@@ -2,6 +2,9 @@
 // the report. A port of message.rs, `push_message` with its wake loop, `handle_message_reply` and
 // `message_info`. Each step is handed a sound send store and works on its bytes in place; a refusal changes
 // nothing.
+
+#![tactic(auto)]
+
 pub mod acks;
 mod choice;
 mod deadline;

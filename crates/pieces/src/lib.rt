@@ -1,6 +1,9 @@
 // The pieces of a record, in place: a chain of cells of a store's bytes, in index order. Who calls has checked that the bytes
 // are sound, so every link and every size is in range; a walk ends all the same, on any links, after one step more than
 // there are cells. Parameters have the names that they have in the crate records.
+
+#![tactic(auto)]
+
 pub mod ack;
 pub mod cut;
 pub mod held;

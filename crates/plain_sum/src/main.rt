@@ -1,5 +1,7 @@
 // The plain sum of standard input, up to 65,536 bytes, as 64 hexadecimal digits and a line feed; nothing for a longer one.
 
+#![tactic(auto)]
+
 use libc::{STDIN_FILENO, STDOUT_FILENO};
 
 // What fills this buffer is too long.

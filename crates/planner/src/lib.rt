@@ -1,6 +1,8 @@
 // Sizes for a length and a number of pieces, as a fresh receiver keeps and finishes them, the greatest that there are.
 // What is asked of them stands in specs/Plan.antt; that these lines give it is proved in specs/PlanLaws.antt.
 
+#![tactic(auto)]
+
 ghost use Rattle.std.specs.Prelude.{◌≡◌, ◌*◌, ◌≤◌, min, length};
 ghost use Rattle.octets.specs.Octets.{put};
 ghost use Rattle.packet.specs.Frame.{largest_piece};

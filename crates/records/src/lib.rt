@@ -4,6 +4,8 @@
 // bytes, `link` the byte where a link stands, `place` the place of a record or a cell, from 1 on, and `row` the byte where
 // a row starts.
 
+#![tactic(auto)]
+
 pub mod clear;
 pub mod field;
 pub mod find;

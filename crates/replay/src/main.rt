@@ -2,6 +2,8 @@
 // (README.md has the form of a list). The arguments name the lists. Writes a line for each: how many lines of
 // each kind agree, or the first that does not.
 
+#![tactic(auto)]
+
 mod key;
 mod kind;
 mod list;

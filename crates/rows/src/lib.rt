@@ -1,6 +1,8 @@
 // The rows of a store: where each field stands, and what PROTOCOL's "Stores" asks of one row by itself. The chains of rows are
 // walked in the crate soundness.
 
+#![tactic(auto)]
+
 pub mod cell;
 pub mod head;
 pub mod message;

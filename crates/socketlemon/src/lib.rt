@@ -1,6 +1,8 @@
 // The calls by the C convention, for a host in any language; include/socketlemon.h declares them. A slice is
 // a pointer and a length. Each export is one call and carries its whole contract.
 
+#![tactic(auto)]
+
 ghost use Rattle.std.specs.Prelude.{◌≡◌};
 ghost use Rattle.address.specs.Address.{address_of};
 ghost use Rattle.sums.specs.Sums.{keyed_hash_of, derive_key_of};

@@ -2,6 +2,8 @@
 // found in one chain and every link in range before anything that rests on it is read; a walk ends after as many steps as
 // there are places.
 
+#![tactic(auto)]
+
 pub mod chain;
 pub mod fresh;
 pub mod pieces;

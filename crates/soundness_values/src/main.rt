@@ -2,6 +2,8 @@
 // sound. The expected lines were computed by a model of PROTOCOL's rules that was written apart from this
 // code.
 
+#![tactic(auto)]
+
 ghost use Rattle.std.specs.Prelude.{◌≡◌, ◌+◌, ◌≤◌, ◌<◌, length};
 
 use libc::STDOUT_FILENO;

@@ -1,6 +1,8 @@
 // Sums that only the holders of a key can make, and keys derived from a context: BLAKE3's keyed hash and key derivation as
 // calls. Beside them, what the program `plain_sum` writes.
 
+#![tactic(auto)]
+
 pub mod line;
 
 ghost use Rattle.std.specs.Prelude.{◌≡◌};

@@ -1,6 +1,9 @@
 // The topic rules of an init: what a rule book (bytes) says of a topic and a source. Any book of any length and content has
 // an answer. A book is checked and looked up in time linear in its length, but for the search for a topic that stands twice
 // (`book::is_distinct`).
+
+#![tactic(auto)]
+
 mod book;
 mod entry;
 pub mod subnet;

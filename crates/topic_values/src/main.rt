@@ -1,4 +1,7 @@
 // Runs vectors from outside through the topic rules. Writes each answer, and how many of them are the expected ones.
+
+#![tactic(auto)]
+
 use libc::STDOUT_FILENO;
 
 mod books;

@@ -2,6 +2,8 @@
 // and each packet. Of one more message only the init comes, and it ends at its deadline.
 // tools/message_model.py computes the same trace from PROTOCOL without this library.
 
+#![tactic(auto)]
+
 mod deadline;
 mod play;
 mod read;

@@ -2,6 +2,8 @@
 // an entry of each kind of packet. The file stdout holds what tools/wire_values.py computes for the same
 // inputs without them.
 
+#![tactic(auto)]
+
 use libc::STDOUT_FILENO;
 use packet::header::Kind;
 

@@ -38,6 +38,7 @@ module _ (j : ℕ) (w v : List ℕ) where
       ∙ get_or-set_same (put_lane n j w v) (4 * n + j) _ 0 (omega (arith, length-put n)) ∙ ap (word w) (sym e))
       (λ (q : k < n). get_or-set_other (put_lane n j w v) (4 * n + j) (4 * k + j) _ 0 (λ e. omega arith) ∙ put_same n k q (omega arith) b)
       (eq-or-lt_of_le (le_of_suc-le-suc h))
+  put_same zero k h l b = elim h [ ]
 
   -- the lane, and the others
   pub lane-same : (n : ℕ) → j < 4 → Lanes n v → length w ≡ n → lane n j (put_lane n j w v) ≡ w

@@ -16,7 +16,7 @@ const LANES: usize = 4;
 const LAST: usize = 15;
 
 // Four chunks of an input, one for each lane: where each starts, the counter of the first, the mode's flag bits.
-#[derive(Drop)]
+#[derive(Clone, Copy)]
 pub struct Chunks {
     pub at: [usize; 4],
     pub first: u64,

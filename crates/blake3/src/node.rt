@@ -6,7 +6,7 @@ use super::rounds;
 
 // The inputs of a compression: the input chaining value, the block's words, the counter, the number of bytes in the block,
 // the flags.
-#[derive(Drop)]
+#[derive(Clone, Copy)]
 pub struct Node {
     pub input: [u32; 8],
     pub block: [u32; 16],

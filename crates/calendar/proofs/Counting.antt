@@ -77,6 +77,7 @@ sum-le f (suc j) (suc k) h =
     cases (ltb j k)
     (λ e. let l = ltb-true j k e in omega (arith, sum-le f (suc j) k (omega arith)))
     (λ e. let l = ltb-false j k e in let q : j ≡ k = omega arith in rw q (omega arith))
+sum-le f (suc j) zero h = elim h [ ]
 
 -- a number lies between two neighbouring sums only once
 between : (f : ℕ → ℕ) (j k a b : ℕ) → a < f j → b < f k → sum f j + a ≡ sum f k + b → j ≡ k

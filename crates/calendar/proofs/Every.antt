@@ -33,6 +33,7 @@ failed f (suc n) i h e =
     cases (ltb i n)
     (λ t. rw (← failed f n i (ltb-true i n t) e))
     (λ t. let q : n ≡ i = omega (arith, ltb-false i n t) in rw (q, e, and-false))
+failed f zero i h e = elim h [ ]
 
 pub formed-sized : (b : List ℕ) → well_formed b ≡ true → Sized b
 unfolding well_formed

@@ -30,7 +30,7 @@ const DAYS_OF_400: u64 = 146097;
 const DAYS_OF_4: u64 = 1461;
 
 // A date; months and days of a month count from 1.
-#[derive(Drop)]
+#[derive(Clone, Copy)]
 pub struct Date {
     pub year: u64,
     pub month: u64,

@@ -39,7 +39,7 @@ const LAST_YEAR: u64 = 9999;
 pub const DAY_MINUTES: u64 = 1440;
 
 // The hours of a weekday. Opening minute included, closing minute not; two zeros mean closed all day.
-#[derive(Drop)]
+#[derive(Clone, Copy)]
 pub struct Window {
     pub opening: u64,
     pub closing: u64,

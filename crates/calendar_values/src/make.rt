@@ -76,7 +76,7 @@ pub(crate) fn many(n: u8) -> [u8; 163]
 }
 
 // What a calendar says of a time.
-#[derive(Drop)]
+#[derive(Clone, Copy)]
 pub(crate) enum Hours {
     Open,
     Shut,

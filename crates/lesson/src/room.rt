@@ -32,7 +32,7 @@ const QUEUE: usize = 2 * (RUN + 2 * PACKETS) + 352 * PACKETS;
 const DELIVERIES: usize = 6 * PACKETS;
 
 // Where the queue starts and ends, and how many letters are used.
-#[derive(Drop)]
+#[derive(Clone, Copy)]
 struct Next {
     head: usize,
     tail: usize,

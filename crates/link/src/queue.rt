@@ -11,7 +11,7 @@ use crate::entry;
 use octets::{copy_in, get16, put16};
 
 // Where the queue ends, and how many letters are used.
-#[derive(Drop)]
+#[derive(Clone, Copy)]
 pub struct Mark {
     pub tail: usize,
     pub used: usize,

@@ -25,7 +25,7 @@ pub const DONE_REPLY: usize = MessageDone::SIZE;
 
 // What an accepted packet is answered with: whether it has a kind, how many bytes of its frame the reply
 // keeps (0: no reply), the wake mark.
-#[derive(Drop)]
+#[derive(Clone, Copy)]
 pub struct Effect {
     pub any: bool,
     pub keeps: usize,
@@ -64,7 +64,7 @@ pub fn effect_of(kind: Kind) -> Effect
 }
 
 // Where a packet came from, and where it was sent to.
-#[derive(Drop)]
+#[derive(Clone, Copy)]
 pub struct Route {
     pub from: [u8; 16],
     pub to: [u8; 16],

@@ -12,7 +12,7 @@ use crate::choice::{MOST, choose};
 use crate::piece::send_piece;
 
 // What a wake put into the run: where it ends, and how many piece packets it has.
-#[derive(Drop)]
+#[derive(Clone, Copy)]
 pub struct Sent {
     pub end: usize,
     pub pieces: u64,

@@ -7,7 +7,7 @@ ghost use Rattle.packet.specs.Frame.{chunk_index, chunk_offset, chunk_size, piec
 ghost use Rattle.packet.specs.Frame.{id_size, chunk_offset_at, chunk_size_at, chunk_piece_at};
 ghost use Rattle.packet.specs.Outgoing.{chunk_packet};
 
-#[derive(Drop)]
+#[derive(Clone, Copy)]
 pub struct MessageChunk {}
 
 impl MessageChunk {

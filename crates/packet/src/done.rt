@@ -5,7 +5,7 @@ ghost use Rattle.octets.specs.Octets.{put};
 ghost use Rattle.packet.specs.Frame.{done_count, done_sum, id_size, done_sum_at, sum_size, done_end};
 ghost use Rattle.packet.specs.Outgoing.{done_packet};
 
-#[derive(Drop)]
+#[derive(Clone, Copy)]
 pub struct MessageDone {}
 
 impl MessageDone {

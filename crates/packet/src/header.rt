@@ -30,7 +30,7 @@ pub const FLAG_REPLY: u8 = 0x04;
 pub const FLAG_ACK: u8 = 0x01;
 
 // What a packet is: one of the five kinds, an acknowledgement of one of the first three, or nothing known.
-#[derive(Drop)]
+#[derive(Clone, Copy)]
 pub enum Kind {
     Init,
     Chunk,

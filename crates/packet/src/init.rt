@@ -7,7 +7,7 @@ ghost use Rattle.packet.specs.Frame.{init_length, init_topic, init_flag, reply_f
 ghost use Rattle.packet.specs.Frame.{id_size, init_topic_size_at, init_topic_at};
 ghost use Rattle.packet.specs.Outgoing.{init_packet};
 
-#[derive(Drop)]
+#[derive(Clone, Copy)]
 pub struct MessageInit {}
 
 impl MessageInit {

@@ -5,7 +5,7 @@ ghost use Rattle.std.specs.Prelude.{◌≡◌, length};
 ghost use Rattle.packet.specs.Frame.{id_size, address_size};
 ghost use Rattle.packet.specs.Named.{Named};
 
-#[derive(Drop)]
+#[derive(Clone, Copy)]
 pub struct Label {
     pub id: [u8; 8],
     pub source: [u8; 16],

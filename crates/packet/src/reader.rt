@@ -10,7 +10,7 @@ ghost use Rattle.packet.specs.Frame.{chunk_offset_at, chunk_size_at, chunk_piece
 ghost use Rattle.packet.specs.Frame.{needed};
 ghost use Rattle.packet.specs.declared.header.Kind.TheVariants.{Init, Chunk};
 
-#[derive(Drop)]
+#[derive(Clone, Copy)]
 pub struct Frame<'a> {
     pub bytes: &'a [u8],
 }

@@ -45,7 +45,7 @@ pub fn put_init(run: &mut [u8], a: usize, label: Label, topic: &[u8])
 }
 
 // Where a piece stands in its message: its index, and its offset in bytes.
-#[derive(Drop)]
+#[derive(Clone, Copy)]
 pub struct Position {
     pub index: u64,
     pub offset: u64,

@@ -87,7 +87,7 @@ fn put_rest(store: &mut [u8], row: usize, total: u64, created: u64, end: u64, to
 }
 
 // When a message was created and when its time is over, in milliseconds; both 0 of one that arrives.
-#[derive(Drop)]
+#[derive(Clone, Copy)]
 pub struct Times {
     pub created: u64,
     pub end: u64,

@@ -8,7 +8,7 @@ use crate::{kind, make, room, text, told};
 
 // What holds between two lines: where the lines with the rule book and the known keys start (past the text:
 // there is none yet), and the last call.
-#[derive(Drop)]
+#[derive(Clone, Copy)]
 struct State {
     rules: usize,
     known: usize,
@@ -16,14 +16,14 @@ struct State {
 }
 
 // What comes of a line: the next state, or what is wrong with the line at that place.
-#[derive(Drop)]
+#[derive(Clone, Copy)]
 enum Next {
     On(State),
     Stop(usize, Why),
 }
 
 // What comes of a list.
-#[derive(Drop)]
+#[derive(Clone, Copy)]
 pub(crate) enum Outcome {
     Same,
     Differs(usize, Why),

@@ -6,7 +6,7 @@ use answer::Answer;
 use calendar::ALWAYS;
 
 // What a line makes: the library's answer, or nothing where it is not of the form.
-#[derive(Drop)]
+#[derive(Clone, Copy)]
 pub(crate) enum Made {
     Of(Answer),
     Bad,

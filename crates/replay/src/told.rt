@@ -6,7 +6,7 @@ use answer::Answer;
 use packet::run;
 
 // A call: its line's place in the text and its kind, the library's answer, and what the lines have told of it so far.
-#[derive(Drop)]
+#[derive(Clone, Copy)]
 pub(crate) struct Call {
     pub(crate) at: usize,
     pub(crate) kind: usize,
@@ -20,7 +20,7 @@ pub(crate) struct Call {
 }
 
 // What is wrong with a line.
-#[derive(Drop)]
+#[derive(Clone, Copy)]
 pub(crate) enum Why {
     // It is not of the form.
     Form,
@@ -38,7 +38,7 @@ pub(crate) enum Why {
 }
 
 // The call with what was told, or what is wrong.
-#[derive(Drop)]
+#[derive(Clone, Copy)]
 pub(crate) enum Told {
     Same(Call),
     Differs(Why),

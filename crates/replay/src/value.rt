@@ -8,7 +8,7 @@ use crate::{room, text};
 const MOST: u64 = 18446744073709551615;
 
 // A number or a count, or that the word says none.
-#[derive(Drop)]
+#[derive(Clone, Copy)]
 pub(crate) enum Value {
     Is(u64),
     Bad,

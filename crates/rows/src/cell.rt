@@ -7,7 +7,7 @@ ghost use Rattle.machine.specs.Rows.{zero_from};
 ghost use Rattle.machine.specs.Sound.{cell_fits};
 ghost use Rattle.rows.specs.Asked.{piece_fits};
 
-#[derive(Drop)]
+#[derive(Clone, Copy)]
 pub struct Cell {}
 
 impl Cell {

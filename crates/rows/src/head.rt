@@ -4,7 +4,7 @@ ghost use Rattle.std.specs.Prelude.{◌≡◌};
 ghost use Rattle.machine.specs.Codes.{is_role};
 ghost use Rattle.rows.specs.Asked.{head_fits};
 
-#[derive(Drop)]
+#[derive(Clone, Copy)]
 pub struct Head {}
 
 impl Head {

@@ -13,7 +13,7 @@ ghost use Rattle.machine.specs.Sound.{free_shape};
 ghost use Rattle.rows.specs.Asked.{Sized, row_fits};
 
 // What a row is to hold: nothing, a record of a kind, or a piece.
-#[derive(Drop)]
+#[derive(Clone, Copy)]
 pub enum Holds {
     Free,
     Record(u64),

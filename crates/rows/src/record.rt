@@ -7,7 +7,7 @@ ghost use Rattle.machine.specs.Rows.{zero_from};
 ghost use Rattle.machine.specs.Sound.{sending_fits};
 ghost use Rattle.rows.specs.Asked.{record_fits};
 
-#[derive(Drop)]
+#[derive(Clone, Copy)]
 pub struct Record {}
 
 impl Record {

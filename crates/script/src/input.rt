@@ -6,7 +6,7 @@ ghost use Rattle.machine.specs.Limits.{longest};
 ghost use Rattle.script.specs.Input.{line, behind, is_digit, is_letter, value, decimal};
 ghost use Rattle.script.specs.Script.{script_of, number_of};
 
-#[derive(Drop)]
+#[derive(Clone, Copy)]
 pub enum Script {
     // No input: nothing is shown.
     Refused,

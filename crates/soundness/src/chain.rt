@@ -6,7 +6,7 @@ ghost use Rattle.machine_laws.specs.Marks.{all_marked};
 ghost use Rattle.soundness.specs.Walked.{record_table, cell_table, Fitting, chain_marked};
 
 // Rows of one size, one behind the other from a start on; a walk along their links takes at most `steps` steps.
-#[derive(Drop)]
+#[derive(Clone, Copy)]
 pub struct Table {
     pub start: usize,
     pub size: usize,

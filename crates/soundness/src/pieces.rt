@@ -85,7 +85,7 @@ fn cell(s: &[u8], cells: usize, x: usize) -> &[u8]
 }
 
 // Whether pieces are as asked, and then how many they are.
-#[derive(Drop)]
+#[derive(Clone, Copy)]
 pub struct Pieces {
     pub fine: bool,
     pub count: u8,

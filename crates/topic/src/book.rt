@@ -6,7 +6,7 @@ use crate::entry::{end_at, is_within, subnets_fit, topic_at, whole_at};
 use octets::equal;
 
 // What a book says of a topic and a source.
-#[derive(Drop)]
+#[derive(Clone, Copy)]
 pub enum Admission {
     // The book is no rule book.
     Malformed,

@@ -1,0 +1,9 @@
+-- `calendar::days::date_of` meets its contract: the loop keeps where the day stands in the year. Assumes nothing.
+use Rattle.calendar.proofs.Computed.{Spot}
+use Rattle.calendar.proofs.days.date_of.Given as goal
+
+abbrev pub invariant-loop-left : goal.invariant-loop-left
+invariant-loop-left l = Spot l.day l.year l.month l.left
+
+abbrev pub decreases-loop-left : goal.decreases-loop-left
+decreases-loop-left l = l.left

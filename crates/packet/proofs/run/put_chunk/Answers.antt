@@ -1,0 +1,10 @@
+-- Assumes nothing.
+use Rattle.packet.proofs.Writes.{entry-is}
+use Rattle.packet.specs.LengthsLaws.{length-chunk}
+use Rattle.packet.proofs.run.put_chunk.Goals as goal
+
+pub returns : goal.returns
+returns c =
+    let c6 = c in
+    let c13 = c6 in
+    entry-is _ _ _ _ _ _ _ _ c13.requires.0 (length-chunk _ _ _ _ c13.requires.1) c6.put_front.ensures c.put.ensures

@@ -29,7 +29,7 @@ records c = sym c.records_once-records.ensures ∙ c.if-not-records.false
 each : (c : Else-not-each) → let a = c.args in cells_once (get_or a.store.now count_at 0) a.role a.store.now ≡ true
 each c =
     let a = c.args in
-    cells_at a.role a.store.now _ _ (cells c.before.before) c.cells_once-each.ensures ∙ c.if-not-each.false
+    cells_at a.role a.store.now _ _ c.small-cells.ensures.0 c.cells_once-each.ensures ∙ c.if-not-each.false
 
 pub returns-then-not-head : goal.returns-then-not-head
 returns-then-not-head c = no-head _ _ (sym c.fits-head.ensures ∙ c.if-not-head.true)

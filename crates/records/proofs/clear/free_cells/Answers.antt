@@ -7,8 +7,8 @@ use Rattle.records.proofs.clear.free_cells.Goals as goal
 pub loop-n-init : goal.loop-n-init
 loop-n-init c = record { turns = omega arith; chain = c.requires; long = refl; gives = refl }
 
-pub shape_of-store-then-place-eq0 : goal.shape_of-store-then-place-eq0
-shape_of-store-then-place-eq0 c = c.loop-n.invariant.long
+-- LEFT same_length : tie.Need-same-length invariant-loop decreases-loop
+-- same_length c = c.before.before.loop.invariant.long
 
 pub returns-then-place-eq0 : goal.returns-then-place-eq0
 returns-then-place-eq0 c = frees-end c.loop-n.invariant (omega arith) c.if-place-eq0.true
@@ -22,8 +22,8 @@ loop-n-preserved c =
     let left = free in
     frees-on left.loop-n.invariant (omega arith) _ _ left.if-place-eq0.false free.free_cell-place.ensures.0 free.free_cell-place.ensures.1
 
-pub shape_of-store : goal.shape_of-store
-shape_of-store c = c.loop-n.invariant.long
+-- LEFT same-length-2 : tie.Need-same-length-2 invariant-loop decreases-loop
+-- same-length-2 c = c.before.loop.invariant.long
 
 pub returns : goal.returns
 returns c = frees-out c.loop-n.invariant c.loop-n-test.false

@@ -10,4 +10,4 @@ pub returns : goal.returns
 returns c =
     let known = c in
     ap (λ (at : ℕ). ltb 0 (get_or known.args.store.now at 0)) c.find_held.ensures.0
-    ∙ held-is _ _ (λ i. (known.type_inv.store i).fits) known.requires.is _
+    ∙ held-is _ _ (λ i. (known.shared_slice_known-1.given i).fits) known.requires.is _

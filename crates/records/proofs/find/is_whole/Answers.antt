@@ -15,10 +15,10 @@ find-link-requires c =
 pub bounds-store-link : goal.bounds-store-link
 bounds-store-link c =
     let known = c in
-    rw c.find-link.ensures (whole-inside _ _ (λ i. (known.type_inv.store i).fits) known.requires.is _)
+    rw c.find-link.ensures (whole-inside _ _ (λ i. (known.shared_slice_known-1.given i).fits) known.requires.is _)
 
 pub returns : goal.returns
 returns c =
     let known = c in
     ap (λ (at : ℕ). ltb 0 (get_or known.args.store.now at 0)) c.find-link.ensures
-    ∙ whole_is _ _ (λ i. (known.type_inv.store i).fits) known.requires.is _
+    ∙ whole_is _ _ (λ i. (known.shared_slice_known-1.given i).fits) known.requires.is _

@@ -8,4 +8,4 @@ open_row-requires c = let g = c.requires in (g.free, fine-fields g.fine)
 pub returns : goal.returns
 returns c =
     let known = c in
-    ready-opened _ (λ i. (known.type_inv.store i).fits) _ known.requires _ c.open_row.ensures
+    ready-opened _ (λ i. (known.slice_known-1.given i).fits) _ known.requires _ c.open_row.ensures

@@ -17,10 +17,10 @@ held s = label_of (row_in s.args.store.now s.args.link)
 abbrev said : Start → Label
 said s = new_label s.args.label s.args.topic.now
 
-sources : (c : After-equal-from) → let s = c in c.equal-from.result ≡ same (held c.before.before.before.before.before.before.before.before).source-1 (said c.before.before.before.before.before.before.before.before).source-1
+sources : (c : After-equal-from) → let s = c in c.equal-from.result ≡ same (held c.before.before.before.before.before.before.before.before).source (said c.before.before.before.before.before.before.before.before).source
 sources c = rw (← c.source.ensures) c.equal-from.ensures
 
-destinations : (c : After-equal-to) → let s = c in c.equal-to.result ≡ same (held c.before.before.before.before.before.before.before.before.before.before.before).destination-1 (said c.before.before.before.before.before.before.before.before.before.before.before).destination-1
+destinations : (c : After-equal-to) → let s = c in c.equal-to.result ≡ same (held c.before.before.before.before.before.before.before.before.before.before.before).destination (said c.before.before.before.before.before.before.before.before.before.before.before).destination
 destinations c = rw (← c.destination.ensures) c.equal-to.ensures
 
 topics : (c : After-equal-about) → let s = c in c.equal-about.result ≡ same (held c.before.before.before.before.before.before.before.before.before.before.before.before.before.before.before).topic (said c.before.before.before.before.before.before.before.before.before.before.before.before.before.before.before).topic

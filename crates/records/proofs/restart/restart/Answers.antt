@@ -7,7 +7,7 @@ use Rattle.records.proofs.restart.restart.Goals as goal
 use Rattle.records.proofs.restart.restart.Goals.{After-row_at-row, After-slice_known-1}
 
 pub row_at-row-requires : goal.row_at-row-requires
-row_at-row-requires c = let k = c in here-reached role_receive _ (λ i. (k.type_inv.store i).fits) _ k.requires.0
+row_at-row-requires c = let k = c in here-reached role_receive _ (λ i. (k.slice_known-1.given i).fits) _ k.requires.0
 
 pub put_row-requires : goal.put_row-requires
 put_row-requires c = let row = c in (fine-fields row.requires.2, row.row_at-row.ensures.1)
@@ -18,7 +18,7 @@ clear-requires c =
     let row = written in
     let k = row in
     let start = k in
-    restart-chain start.args.store.now (λ i. (k.type_inv.store i).fits) start.args.at start.requires.0 _ (fine-fields start.requires.2)
+    restart-chain start.args.store.now (λ i. (k.slice_known-1.given i).fits) start.args.at start.requires.0 _ (fine-fields start.requires.2)
     _ _ _ row.row_at-row.ensures.0 written.put_row.ensures c.small.ensures.0
 
 pub returns : goal.returns
@@ -28,5 +28,5 @@ returns c =
     let row = written in
     let k = row in
     let start = k in
-    restarted start.args.store.now (λ i. (k.type_inv.store i).fits) start.args.at start.requires.0 _ (fine-fields start.requires.2)
+    restarted start.args.store.now (λ i. (k.slice_known-1.given i).fits) start.args.at start.requires.0 _ (fine-fields start.requires.2)
     _ _ _ row.row_at-row.ensures.0 written.put_row.ensures small.small.ensures.0 start.requires.2 start.requires.1 _ c.clear.ensures

@@ -2,7 +2,7 @@
 use Prim.Native.Nat.{ℕ, ◌+◌, ◌≤◌}
 use native.Mathlib.Omega.{arith}
 use Rattle.std.specs.Prelude.{◌≡◌, true, ◌||◌, not, eqb, leb}
-use Rattle.std.proofs.Math.Path.{refl}
+use Rattle.std.proofs.Math.Path.{refl, sym, subst}
 use mathlib.Core.List.{List, [], ◌∷◌}
 use Rattle.std.proofs.Math.ListN.{length}
 use Rattle.std.proofs.Common.{eqb-true, eq-eqb, leb-true, le-leb}
@@ -22,7 +22,7 @@ module _ (most : ℕ) where
       let n : ℕ = length r.cells + held_by r.label.source l in
       let s = split (leb n most) (fair most l) h in
       cases (same source r.label.source)
-      (λ e. rw e (rw (same-eq source r.label.source e) (leb-true n most s.0)))
+      (λ e. rw e (subst (λ (x : List ℕ). length r.cells + held_by x l ≤ most) (sym (same-eq source r.label.source e)) (leb-true n most s.0)))
       (λ e. rw e (omega (arith, fair-is l s.1 source)))
 
   is-fair : (l : List Rec) → Fair most l → fair most l ≡ true

@@ -11,11 +11,11 @@ pub loop-k-preserved : goal.loop-k-preserved
 loop-k-preserved c =
     let l = c.loop-k in
     let g = c.args in
-    (search rules, put_next l.v g.v.now g.t3 g.j l.k l.invariant.1)
+    (search rules, put_next l.v g.v.now g.w g.j l.k l.invariant.1)
 
 pub returns : goal.returns
 returns c =
     let l = c.loop-k in
     let q : l.k ≡ 16 = omega arith in
     let g = c.args in
-    l.invariant.1 ∙ ap (λ (n : ℕ). put_lane n g.j g.t3 g.v.now) q
+    l.invariant.1 ∙ ap (λ (n : ℕ). put_lane n g.j g.w g.v.now) q

@@ -11,10 +11,10 @@ loop-i-preserved c =
     let l = c.loop-i in (
       search rules,
       simp length-set l.invariant.1,
-      fill (byte_at c.args.t1) 32
+      fill (byte_at c.args.w) 32
           l.out l.i l.invariant.1 l.invariant.2 _ (omega arith) c.byte_of.ensures,
     )
 
 pub returns : goal.returns
 unfolding bytes
-returns c = let l = c.loop-i in filled (byte_at c.args.t1) 32 l.out l.i l.invariant.1 l.invariant.2 (omega arith)
+returns c = let l = c.loop-i in filled (byte_at c.args.w) 32 l.out l.i l.invariant.1 l.invariant.2 (omega arith)

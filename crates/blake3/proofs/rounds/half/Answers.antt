@@ -8,8 +8,8 @@ unfolding half add
 returns c =
     rw (
       c.rotate-b.ensures,
-      c.wrapping_add_u32-c.ensures,
+      c.wrapping_add_u32-c.ensures.value,
       c.rotate-d.ensures,
-      c.wrapping_add_u32-a.ensures,
-      c.wrapping_add_u32.ensures,
+      c.wrapping_add_u32-a.ensures.value,
+      c.wrapping_add_u32.ensures.value,
     )

@@ -48,7 +48,7 @@ returns-then-n-eq-FOUR_CHUNKS c =
     let value : (j : ℕ) → j < 4 → lane 8 j _ ≡ _ =
     λ j h. e.1 j h g.key (begun g.key g.mode (drop (word (starts third) j) s) (g.t + j) (spread.spread-h.ensures.1 j h)) in (
       e.0,
-      among (λ j. lane 8 j c.whole_chunks.new.1.1.1.0 ≡ value_at g.key g.mode s g.t j)
+      among (λ j. lane 8 j c.whole_chunks.new.h ≡ value_at g.key g.mode s g.t j)
           (value 0 (omega arith)) (value 1 (omega arith)) (value 2 (omega arith)) (value 3 (omega arith)),
     )
 
@@ -78,7 +78,7 @@ returns c =
     let g = spread.args in
     let s = g.s.now in
     let t = g.t in
-    let r = c.set8.new.0 in
+    let r = c.set8.new.v in
     let i = (length s - third - 1) / block_len in
     let at : ℕ → ℕ → List ℕ = λ a j. before g.key g.mode (drop a s) (t + j) i in
     let so_far : (j : ℕ) (h : j < 4) → lane 8 j _ ≡ at (word (starts third) j) j =

@@ -9,6 +9,6 @@ pub returns : goal.returns
 unfolding parent_node
 returns c =
     let g = c.args in
-    let hl : length g.t3 ≡ 8 = search rules in
-    let hr : length g.t4 ≡ 8 = search rules in
-    λ i. record { input = g.key; block = listed g.t3 8 hl i ++ listed g.t4 8 hr i; counter = 0; size = 64; flags = bit_or g.mode 4 }
+    let hl : length g.l ≡ 8 = search rules in
+    let hr : length g.r ≡ 8 = search rules in
+    λ i. record { input = g.key; block = listed g.l 8 hl i ++ listed g.r 8 hr i; counter = 0; size = 64; flags = bit_or g.mode 4 }

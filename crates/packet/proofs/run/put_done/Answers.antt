@@ -7,4 +7,4 @@ pub returns : goal.returns
 returns c =
     let c6 = c in
     let c13 = c6 in
-    entry-is _ _ _ _ _ _ _ _ c13.requires.0 (length-done _ _ _ c13.requires.1.0 c13.requires.1.1) c6.put_front.ensures c.put.ensures
+    entry-is _ _ _ _ _ _ _ _ c13.requires.room (length-done _ _ _ c13.requires.id_len.0 c13.requires.id_len.1) c6.put_front.ensures c.put.ensures

@@ -9,13 +9,10 @@ use borrow.Author.Rules.{rules}
 use Rattle.packet.proofs.run.put_init.Goals as goal
 use Rattle.packet.proofs.run.put_init.Goals.{After-to-2-1, Start}
 
-abbrev start : After-to-2-1 → Start
-start c = c.before.before.before.before.before.before.before.before
+room : (c : After-to-2-1) → let a = c.args in Room a.run.now a.a a.label.source a.label.destination (21 + length a.topic.now)
+room c = record { source = search rules; target = search rules; fits = c.requires.1 }
 
-room : (c : After-to-2-1) → let a = (start c).args in Room a.run.now a.a a.label.source a.label.destination (21 + length a.topic.now)
-room c = record { source = search rules; target = search rules; fits = (start c).requires.1 }
-
-id-long : (c : After-to-2-1) → length (start c).args.label.id ≡ 8
+id-long : (c : After-to-2-1) → length c.args.label.id ≡ 8
 id-long c = search rules
 
 pub returns : goal.returns

@@ -1,4 +1,0 @@
-mod Field
-mod Fields
-mod Accessor
-mod Through

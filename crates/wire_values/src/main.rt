@@ -44,9 +44,8 @@ fn letter(k: Kind) -> u8 {
 
 // The kinds of all flag bytes, 32 to a line.
 fn kinds(rt: &impl Print) -> io::Result<()> {
-    for f in 0..256 {
-        let one = [letter(packet::header::kind_of((f % 256) as u8))];
-        rt.write_all(&one)?;
+    for f in 0..=255u8 {
+        rt.write_all(&[letter(packet::header::kind_of(f))])?;
         if f % 32 == 31 {
             line(rt)?;
         }

@@ -4,7 +4,9 @@ use Rattle.std.specs.Prelude.{ℕ, suc, ◌<◌, ◌≡◌, Bool, true, cond, �
 use Rattle.std.proofs.Common.{arith}
 use Rattle.std.proofs.Math.Path.{refl}
 use mathlib.Core.List.{List, [], ◌∷◌, map}
+use Rattle.std.specs.Prelude.{◌-◌}
 use Rattle.octets.specs.Octets.{capacity}
+use Rattle.machine.specs.Limits.{cut_by}
 use Rattle.octets.specs.BoolsLaws.{cases}
 use Rattle.machine.specs.Codes.{role_send, piece_sent, piece_acked}
 use Rattle.machine.specs.Values.{Cell}
@@ -43,7 +45,7 @@ module _ (f : Cell → Cell) (m : Marks f) where
   pub cut-map : (n : ℕ) (l : List Cell) → is_cut n (map f l) ≡ is_cut n l
   unfolding is_cut
   cut-map n [] = refl
-  cut-map n (c ∷ l) = rw (m.bytes c, cut-map _ l)
+  cut-map n (c ∷ l) = rw (m.bytes c, cut-map (n - cut_by) l)
 
   pub joined-map : (l : List Cell) → joined (map f l) ≡ joined l
   unfolding joined

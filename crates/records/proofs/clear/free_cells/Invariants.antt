@@ -1,0 +1,11 @@
+-- The invariant: freeing goes on from the cell that is reached, in the store as it is then. Assumes nothing.
+use Prim.Native.Nat.{suc, ◌-◌}
+use Rattle.machine.specs.Limits.{most_cells}
+use Rattle.records.proofs.Clears.{Freeing}
+use Rattle.records.proofs.clear.free_cells.Given as goal
+
+abbrev pub invariant-loop-n : goal.invariant-loop-n
+invariant-loop-n l = Freeing l.end l.first l.initial.store l.store l.place l.n
+
+abbrev pub decreases-loop-n : goal.decreases-loop-n
+decreases-loop-n l = suc most_cells - l.n

@@ -1,0 +1,13 @@
+-- Assumes nothing.
+use Rattle.records.proofs.Opens.{rest-is}
+use Rattle.records.proofs.open.put_rest.Goals as goal
+
+pub returns : goal.returns
+returns c =
+    let c6 = c in
+    let c10 = c6 in
+    let c14 = c10 in
+    let c18 = c14 in
+    let start = c18 in
+    rest-is _ _ _ _ _ _ _ _ _ _ _ start.requires.0 start.requires.1
+    c18.put64.ensures c14.put64-2.ensures c10.put64-3.ensures c6.copy_in.ensures c.fill.ensures

@@ -41,13 +41,11 @@ fn arriving(row: &[u8], id: &[u8]) -> bool {
 
 // The key mark of a packet: whether the line has the source in the arriving record of that id.
 pub(crate) fn mark(line: &[u8], recv: &[u8], id: &[u8]) -> u64 {
-    let mut k: usize = 0;
-    while k < record::COUNT {
+    for k in 0..record::COUNT {
         let a = record::FIRST + record::BYTES * k;
         if arriving(text::part(recv, a, record::BYTES), id) {
             return listed(line, recv, a + Record::SOURCE);
         }
-        k += 1;
     }
     0
 }

@@ -17,60 +17,62 @@ mod told;
 mod value;
 
 use list::Outcome;
+use std::io;
 
 // Replays the list of that text, and says what came of it. Answers how many differ: 0 or 1.
-fn replay(text: &[u8]) -> u64 {
+fn replay(rt: &impl Print, text: &[u8]) -> io::Result<u64> {
     let mut counts = [0u64; kind::OTHER];
     match node::replay(text, &mut counts) {
         Outcome::Same => {
-            show::counts(&counts);
+            show::counts(rt, &counts)?;
             0
         }
         Outcome::Differs(at, why) => {
             show::why(
-                std::num::wrapping_add_u64(text::count(text::part(text, 0, at), b'\n'), 1),
+                rt,
+                text::count(text::part(text, 0, at), b'\n').wrapping_add(1),
                 why,
-            );
+            )?;
             1
         }
     }
 }
 
 // Replays the list in the file of that name, which has to be shorter than the buffer.
-fn file(name: &[u8]) -> u64 {
-    show::say(name);
+fn file(rt: &impl Print, name: &[u8]) -> io::Result<u64> {
+    show::say(rt, name)?;
     let file = os::open_read(name);
     if file < 0 {
-        show::say(b": it cannot be opened\n");
-        return 1;
+        show::say(rt, b": it cannot be opened\n")?;
+        return Ok(1);
     }
     let mut text = [0u8; 131072];
     let n = io::read_full(file, &mut text);
     libc::close(file);
     if n == text.len() {
-        show::say(b": it is too long\n");
-        return 1;
+        show::say(rt, b": it is too long\n")?;
+        return Ok(1);
     }
-    replay(&text[..n])
+    replay(rt, &text[..n])
 }
 
 // Replays the list that argument k names.
-fn argument(k: usize) -> u64 {
+fn argument(rt: &impl Print, k: usize) -> io::Result<u64> {
     let mut name = io::buffer();
     let n = os::arg(k, &mut name);
-    file(&name[..n])
+    file(rt, &name[..n])
 }
 
 // Replays the lists that the arguments name.
-fn main() {
+fn main(rt: HostRuntime) -> io::Result<()> {
     let all = os::arg_count();
     let mut differ: u64 = 0;
     let mut k: usize = 1;
     while k < all {
-        differ = std::num::wrapping_add_u64(differ, argument(k));
+        differ = differ.wrapping_add(argument(&rt, k)?);
         k += 1;
     }
-    show::field(b"", std::num::wrapping_sub_u64(k as u64, 1));
-    show::field(b" lists replayed, ", differ);
-    show::say(b" with a difference\n");
+    show::field(&rt, b"", (k as u64).wrapping_sub(1))?;
+    show::field(&rt, b" lists replayed, ", differ)?;
+    show::say(&rt, b" with a difference\n")
 }

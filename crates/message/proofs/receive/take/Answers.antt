@@ -1,0 +1,25 @@
+-- Assumes nothing.
+use mathlib.Core.Path.{◌≡◌, refl, sym, ◌∙◌}
+use mathlib.Core.Bool.{true}
+use Rattle.machine.specs.Codes.{role_receive}
+use Rattle.machine.specs.Sound.{sound}
+use Rattle.machine.specs.Refusals.{refusal}
+use Rattle.machine.specs.Take.{take_row, take_of}
+use Rattle.message.proofs.receive.take.Goals as goal
+use Rattle.message.proofs.receive.take.Goals.{Else-not-sound}
+
+pub returns-then-not-sound : goal.returns-then-not-sound
+unfolding take_of take_row refusal
+returns-then-not-sound c =
+    rw (sym c.sound.ensures ∙ c.if-not-sound.true, c.refuse.ensures) refl
+
+-- the store is sound
+sounds : (c : Else-not-sound) → sound role_receive c.args.recv.now ≡ true
+sounds c = sym c.sound.ensures ∙ c.if-not-sound.false
+
+pub take-requires : goal.take-requires
+take-requires c = sounds (goal.at.take-requires c).Else-not-sound
+
+pub returns : goal.returns
+unfolding take_of take_row refusal
+returns c = let done = c in rw (sounds (goal.at.returns c).Else-not-sound) done.take.ensures

@@ -1,0 +1,25 @@
+-- Assumes nothing.
+use mathlib.Core.Path.{◌≡◌, refl, sym, ◌∙◌}
+use mathlib.Core.Bool.{true}
+use Rattle.machine.specs.Codes.{role_send}
+use Rattle.machine.specs.Sound.{sound}
+use Rattle.machine.specs.Refusals.{refusal}
+use Rattle.machine.specs.Wake.{wake_row, wake_of}
+use Rattle.message.proofs.send.wake.Goals as goal
+use Rattle.message.proofs.send.wake.Goals.{Else-not-sound}
+
+pub returns-then-not-sound : goal.returns-then-not-sound
+unfolding wake_of wake_row refusal
+returns-then-not-sound c =
+    rw (sym c.sound.ensures ∙ c.if-not-sound.true, c.refuse.ensures) refl
+
+-- the store is sound
+sounds : (c : Else-not-sound) → sound role_send c.args.send.now ≡ true
+sounds c = sym c.sound.ensures ∙ c.if-not-sound.false
+
+pub wake-requires : goal.wake-requires
+wake-requires c = sounds (goal.at.wake-requires c).Else-not-sound
+
+pub returns : goal.returns
+unfolding wake_of wake_row refusal
+returns c = let done = c in rw (sounds (goal.at.returns c).Else-not-sound) done.wake.ensures

@@ -1,0 +1,13 @@
+use Prim.Native.Nat.{◌-◌}
+use mathlib.Core.Path.{refl}
+use Rattle.outbox.proofs.Lines.{move-on, move-end}
+use Rattle.outbox.proofs.choice.put_in.Goals as goal
+
+pub loop-i-init : goal.loop-i-init
+loop-i-init c = record { long = c.requires; gives = refl }
+
+pub loop-i-preserved : goal.loop-i-preserved
+loop-i-preserved c = let turn = c in move-on turn.loop-i.invariant turn.loop-i-test.true
+
+pub returns : goal.returns
+returns c = move-end c.loop-i.invariant c.loop-i-test.false

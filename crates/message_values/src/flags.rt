@@ -71,8 +71,8 @@ fn lines(rt: &impl Print, counts: &[u64; 30]) -> io::Result<()> {
 // The answers to all flag bytes in frames of n bytes.
 pub(crate) fn all(rt: &impl Print, what: &[u8], held: bool, n: usize) -> io::Result<()> {
     let mut counts = [0u64; 30];
-    for f in 0..256 {
-        let i = place(answer_to((f % 256) as u8, held, n));
+    for f in 0..=255u8 {
+        let i = place(answer_to(f, held, n));
         counts[i] = counts[i].wrapping_add(1);
     }
     show::say(rt, what)?;

@@ -17,7 +17,12 @@ mod told;
 mod value;
 
 use list::Outcome;
-use std::io;
+use std::io::Read;
+use std::rt::Files;
+use std::{env, fs, io};
+
+// A list that has so many bytes is too long.
+const MOST: usize = 131072;
 
 // Replays the list of that text, and says what came of it. Answers how many differ: 0 or 1.
 fn replay(rt: &impl Print, text: &[u8]) -> io::Result<u64> {
@@ -25,54 +30,46 @@ fn replay(rt: &impl Print, text: &[u8]) -> io::Result<u64> {
     match node::replay(text, &mut counts) {
         Outcome::Same => {
             show::counts(rt, &counts)?;
-            0
+            Ok(0)
         }
         Outcome::Differs(at, why) => {
-            show::why(
-                rt,
-                text::count(text::part(text, 0, at), b'\n').wrapping_add(1),
-                why,
-            )?;
-            1
+            let line = text::count(text::part(text, 0, at), b'\n').wrapping_add(1);
+            show::why(rt, line, why)?;
+            Ok(1)
         }
     }
 }
 
-// Replays the list in the file of that name, which has to be shorter than the buffer.
-fn file(rt: &impl Print, name: &[u8]) -> io::Result<u64> {
-    show::say(rt, name)?;
-    let file = os::open_read(name);
-    if file < 0 {
+// Replays the list in the file of that name.
+fn file<R: Files + Alloc + Print>(rt: &R, name: &str) -> io::Result<u64> {
+    show::say(rt, name.as_bytes())?;
+    let Ok(file) = fs::open(rt, name) else {
         show::say(rt, b": it cannot be opened\n")?;
         return Ok(1);
-    }
-    let mut text = [0u8; 131072];
-    let n = io::read_full(file, &mut text);
-    libc::close(file);
-    if n == text.len() {
+    };
+    let mut text = Vec::new(rt.alloc());
+    file.take(MOST as u64).read_to_end(&mut text)?;
+    if text.len() == MOST {
         show::say(rt, b": it is too long\n")?;
         return Ok(1);
     }
-    replay(rt, &text[..n])
+    replay(rt, &text)
 }
 
-// Replays the list that argument k names.
-fn argument(rt: &impl Print, k: usize) -> io::Result<u64> {
-    let mut name = io::buffer();
-    let n = os::arg(k, &mut name);
-    file(rt, &name[..n])
+// Replays the list that an argument names.
+fn argument<R: Files + Alloc + Print>(rt: &R, name: String<R::A>) -> io::Result<u64> {
+    file(rt, &name)
 }
 
 // Replays the lists that the arguments name.
 fn main(rt: HostRuntime) -> io::Result<()> {
-    let all = os::arg_count();
+    let mut all: u64 = 0;
     let mut differ: u64 = 0;
-    let mut k: usize = 1;
-    while k < all {
-        differ = differ.wrapping_add(argument(&rt, k)?);
-        k += 1;
+    for name in env::args(&rt)?.skip(1) {
+        differ = differ.wrapping_add(argument(&rt, name)?);
+        all = all.wrapping_add(1);
     }
-    show::field(&rt, b"", (k as u64).wrapping_sub(1))?;
+    show::field(&rt, b"", all)?;
     show::field(&rt, b" lists replayed, ", differ)?;
     show::say(&rt, b" with a difference\n")
 }

@@ -24,14 +24,12 @@ pub(crate) fn find(s: &[u8], from: usize, b: u8) -> usize
     requires { from ≤ length s.now }
     ensures { (from ≤ result) × (result ≤ length s.now) }
 {
-    let mut i = from;
-    while i < s.len() {
+    for i in from..s.len() {
         if s[i] == b {
             return i;
         }
-        i += 1;
     }
-    i
+    s.len()
 }
 
 // How often b stands in s.
@@ -77,7 +75,7 @@ fn start(line: &[u8], k: usize) -> usize
     ensures { result ≤ length line.now }
 {
     let mut at: usize = 0;
-    for i in 0..k {
+    for _ in 0..k {
         let end = find(line, at, b' ');
         if end == line.len() {
             return end;

@@ -126,13 +126,7 @@ fn sent(line: &[u8], mut call: Call, run: &[u8]) -> Told {
     if at as u64 >= call.run {
         return Told::Differs(Why::Fewer);
     }
-    if !value::is_bytes(
-        line,
-        1,
-        run,
-        at.wrapping_add(run::FROM),
-        16,
-    ) {
+    if !value::is_bytes(line, 1, run, at.wrapping_add(run::FROM), 16) {
         return Told::Differs(Why::Word(1));
     }
     if !value::is_bytes(line, 2, run, at.wrapping_add(run::TO), 16) {

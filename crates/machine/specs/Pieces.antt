@@ -1,5 +1,5 @@
 -- The pieces of a record: its cells, in index order.
-use Rattle.std.specs.Prelude.{ℕ, zero, suc, ◌+◌, cond, List, [], ◌∷◌, ◌++◌, take, drop, eqb, ltb}
+use Rattle.std.specs.Prelude.{ℕ, zero, suc, cond, List, [], ◌∷◌, ◌++◌, take, drop, eqb, ltb}
 use Rattle.std.proofs.Math.Option.{Option, map}
 use Rattle.machine.specs.Limits.{cut_by}
 use Rattle.machine.specs.Codes.{piece_started}

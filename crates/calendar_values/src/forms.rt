@@ -1,6 +1,7 @@
 // Which calendars are well formed: counts over many, and single ones beside a bound.
 use crate::make::Hours;
 use crate::{make, show};
+use std::io;
 
 // 1 where the first bytes are a calendar that is well formed.
 fn one(calendar: &[u8; 163], bytes: usize) -> u64 {
@@ -13,20 +14,18 @@ fn one(calendar: &[u8; 163], bytes: usize) -> u64 {
 
 // One more where they are.
 fn more(count: u64, calendar: &[u8; 163], bytes: usize) -> u64 {
-    std::num::wrapping_add_u64(count, one(calendar, bytes))
+    count.wrapping_add(one(calendar, bytes))
 }
 
 // How many closing minutes to 1,441 an opening minute can have.
 fn closings(opening: u64) -> u64 {
     let mut count: u64 = 0;
-    let mut closing: u64 = 0;
-    while closing < 1442 {
+    for closing in 0..1442 {
         count = more(
             count,
             &make::daily(opening, closing, make::UTC),
             make::NO_DATES,
         );
-        closing += 1;
     }
     count
 }
@@ -34,10 +33,8 @@ fn closings(opening: u64) -> u64 {
 // How many windows there are, in minutes to 1,441.
 fn windows() -> u64 {
     let mut count: u64 = 0;
-    let mut opening: u64 = 0;
-    while opening < 1442 {
-        count = std::num::wrapping_add_u64(count, closings(opening));
-        opening += 1;
+    for opening in 0..1442 {
+        count = count.wrapping_add(closings(opening));
     }
     count
 }
@@ -45,10 +42,8 @@ fn windows() -> u64 {
 // How many offsets there are, of all that two bytes can say.
 fn offsets() -> u64 {
     let mut count: u64 = 0;
-    let mut offset: u64 = 0;
-    while offset < 65536 {
+    for offset in 0..65536 {
         count = more(count, &make::daily(0, 1440, offset), make::NO_DATES);
-        offset += 1;
     }
     count
 }
@@ -56,14 +51,12 @@ fn offsets() -> u64 {
 // How many years there are that have a date, of all that two bytes can say.
 fn years(month: u8, day: u8) -> u64 {
     let mut count: u64 = 0;
-    let mut year: u64 = 0;
-    while year < 65536 {
+    for year in 0..65536 {
         count = more(
             count,
             &make::dated(year, month, day, make::UTC),
             make::ONE_DATE,
         );
-        year += 1;
     }
     count
 }
@@ -71,8 +64,7 @@ fn years(month: u8, day: u8) -> u64 {
 // How many dates a year has, of all months and days that a byte each can say.
 fn dates(year: u64) -> u64 {
     let mut count: u64 = 0;
-    let mut both: u64 = 0;
-    while both < 65536 {
+    for both in 0u64..65536 {
         let month = (both / 256) as u8;
         let day = (both % 256) as u8;
         count = more(
@@ -80,7 +72,6 @@ fn dates(year: u64) -> u64 {
             &make::dated(year, month, day, make::UTC),
             make::ONE_DATE,
         );
-        both += 1;
     }
     count
 }
@@ -89,88 +80,90 @@ fn dates(year: u64) -> u64 {
 fn lengths(n: u8) -> u64 {
     let whole = make::many(n);
     let mut count: u64 = 0;
-    let mut length: usize = 0;
-    while length <= 163 {
+    for length in 0..=163 {
         count = more(count, &whole, length);
-        length += 1;
     }
     count
 }
 
 // Whether a date can be closed.
-fn date(year: u64, month: u8, day: u8) {
-    show::date(b"date ", year, month as u64, day as u64);
+fn date(rt: &impl Print, year: u64, month: u8, day: u8) -> io::Result<()> {
+    show::date(rt, b"date ", year, month as u64, day as u64)?;
     show::line(
+        rt,
         b": ",
         one(&make::dated(year, month, day, make::UTC), make::ONE_DATE),
-    );
+    )
 }
 
 // Whether a window can be.
-fn window(opening: u64, closing: u64) {
-    show::field(b"window ", opening);
-    show::field(b" to ", closing);
+fn window(rt: &impl Print, opening: u64, closing: u64) -> io::Result<()> {
+    show::field(rt, b"window ", opening)?;
+    show::field(rt, b" to ", closing)?;
     show::line(
+        rt,
         b": ",
         one(&make::daily(opening, closing, make::UTC), make::NO_DATES),
-    );
+    )
 }
 
 // Single windows, offsets, numbers of dates and lengths.
-fn bounds() {
-    window(0, 0);
-    window(5, 5);
-    window(1439, 1440);
-    window(1440, 1440);
-    window(0, 1441);
-    window(1020, 540);
+fn bounds(rt: &impl Print) -> io::Result<()> {
+    window(rt, 0, 0)?;
+    window(rt, 5, 5)?;
+    window(rt, 1439, 1440)?;
+    window(rt, 1440, 1440)?;
+    window(rt, 0, 1441)?;
+    window(rt, 1020, 540)?;
     show::line(
+        rt,
         b"offset 840: ",
         one(&make::daily(0, 1440, make::EAST), make::NO_DATES),
-    );
+    )?;
     show::line(
+        rt,
         b"offset 841: ",
         one(&make::daily(0, 1440, 1561), make::NO_DATES),
-    );
-    show::line(b"32 dates: ", one(&make::many(32), 159));
-    show::line(b"33 dates: ", one(&make::many(33), 163));
-    show::line(b"no dates, cut: ", one(&make::many(0), 30));
-    show::line(b"8 dates, cut: ", one(&make::many(8), 62));
-    show::line(b"8 dates: ", one(&make::many(8), 63));
-    show::line(b"8 dates, too long: ", one(&make::many(8), 64));
+    )?;
+    show::line(rt, b"32 dates: ", one(&make::many(32), 159))?;
+    show::line(rt, b"33 dates: ", one(&make::many(33), 163))?;
+    show::line(rt, b"no dates, cut: ", one(&make::many(0), 30))?;
+    show::line(rt, b"8 dates, cut: ", one(&make::many(8), 62))?;
+    show::line(rt, b"8 dates: ", one(&make::many(8), 63))?;
+    show::line(rt, b"8 dates, too long: ", one(&make::many(8), 64))
 }
 
 // Dates that exist or do not.
-fn single() {
-    date(1970, 4, 30);
-    date(1970, 4, 31);
-    date(2096, 2, 29);
-    date(2100, 2, 29);
-    date(2400, 2, 29);
-    date(1970, 0, 1);
-    date(1970, 13, 1);
-    date(1970, 1, 0);
-    date(1969, 12, 31);
-    date(9999, 12, 31);
-    date(10000, 1, 1);
+fn single(rt: &impl Print) -> io::Result<()> {
+    date(rt, 1970, 4, 30)?;
+    date(rt, 1970, 4, 31)?;
+    date(rt, 2096, 2, 29)?;
+    date(rt, 2100, 2, 29)?;
+    date(rt, 2400, 2, 29)?;
+    date(rt, 1970, 0, 1)?;
+    date(rt, 1970, 13, 1)?;
+    date(rt, 1970, 1, 0)?;
+    date(rt, 1969, 12, 31)?;
+    date(rt, 9999, 12, 31)?;
+    date(rt, 10000, 1, 1)
 }
 
-pub(crate) fn run() {
-    show::line(b"windows: ", windows());
-    show::line(b"offsets: ", offsets());
-    show::line(b"years: ", years(1, 1));
-    show::line(b"years with a 29 February: ", years(2, 29));
-    show::line(b"dates of 1969: ", dates(1969));
-    show::line(b"dates of 1970: ", dates(1970));
-    show::line(b"dates of 1972: ", dates(1972));
-    show::line(b"dates of 2000: ", dates(2000));
-    show::line(b"dates of 2100: ", dates(2100));
-    show::line(b"dates of 9999: ", dates(9999));
-    show::line(b"dates of 10000: ", dates(10000));
-    show::line(b"lengths with 0 dates: ", lengths(0));
-    show::line(b"lengths with 32 dates: ", lengths(32));
-    show::line(b"lengths with 33 dates: ", lengths(33));
-    show::line(b"lengths with 255 dates: ", lengths(255));
-    bounds();
-    single();
+pub(crate) fn run(rt: &impl Print) -> io::Result<()> {
+    show::line(rt, b"windows: ", windows())?;
+    show::line(rt, b"offsets: ", offsets())?;
+    show::line(rt, b"years: ", years(1, 1))?;
+    show::line(rt, b"years with a 29 February: ", years(2, 29))?;
+    show::line(rt, b"dates of 1969: ", dates(1969))?;
+    show::line(rt, b"dates of 1970: ", dates(1970))?;
+    show::line(rt, b"dates of 1972: ", dates(1972))?;
+    show::line(rt, b"dates of 2000: ", dates(2000))?;
+    show::line(rt, b"dates of 2100: ", dates(2100))?;
+    show::line(rt, b"dates of 9999: ", dates(9999))?;
+    show::line(rt, b"dates of 10000: ", dates(10000))?;
+    show::line(rt, b"lengths with 0 dates: ", lengths(0))?;
+    show::line(rt, b"lengths with 32 dates: ", lengths(32))?;
+    show::line(rt, b"lengths with 33 dates: ", lengths(33))?;
+    show::line(rt, b"lengths with 255 dates: ", lengths(255))?;
+    bounds(rt)?;
+    single(rt)
 }

@@ -10,8 +10,10 @@ mod make;
 mod show;
 mod times;
 
-fn main() {
-    dates::run();
-    forms::run();
-    times::run();
+use std::io;
+
+fn main(rt: HostRuntime) -> io::Result<()> {
+    dates::run(&rt)?;
+    forms::run(&rt)?;
+    times::run(&rt)
 }

@@ -67,10 +67,8 @@ pub(crate) fn many(n: u8) -> [u8; 163]
 {
     let mut out = daily(0, 1440, UTC);
     octets::copy_in(&mut out, 30, &[n]);
-    let mut i: usize = 0;
-    while i < 33 {
+    for i in 0..33 {
         octets::copy_in(&mut out, NO_DATES + 4 * i, b"\x07\xd0\x02\x1d");
-        i += 1;
     }
     out
 }

@@ -3,13 +3,48 @@
 
 #![tactic(auto)]
 
-use libc::{STDIN_FILENO, STDOUT_FILENO};
+ghost use Rattle.std.specs.Prelude.{◌≡◌, ◌≤◌, length, take, vec_items, OnOk, IfOk, IfSome};
+ghost use Rattle.std.specs.Io.KnownBytes.{Appends};
+ghost use Rattle.lesson.specs.Classroom.{classroom_of};
 
-// The longest input has 2,007 bytes (`input-short` of crates/script): what fills this buffer is none.
-fn main() {
-    let mut input = [0u8; 2008];
-    let n = io::read_full(STDIN_FILENO, &mut input);
-    let mut lines = [0u8; 1020];
-    let end = lesson::classroom(&input[..n], &mut lines);
-    io::write_all(STDOUT_FILENO, &lines[..end]);
+use std::alloc::Global;
+use std::io;
+use std::io::{Read, Write};
+
+// The longest input has 2,007 bytes (`input-short` of crates/script): what has so many bytes is none, and no
+// more of it is read.
+const MOST: u64 = 2008;
+
+// The bytes that hold all lines.
+const TEXT: usize = 1020;
+
+// The first bytes of an input, up to `most`.
+fn read<R: Read + Drop>(alloc: Global, input: R, most: u64) -> io::Result<Vec<u8>>
+    ensures { IfOk result (λ bytes. IfSome (R.remaining input) (λ all. bytes.items ≡ take most all)) }
+{
+    let mut bytes = Vec::new(alloc);
+    input.take(most).read_to_end(&mut bytes)?;
+    Ok(bytes)
+}
+
+// The lines for an input. Answers how many bytes they have.
+fn lines<R: Read + Drop>(alloc: Global, input: R, text: &mut [u8; TEXT]) -> io::Result<usize>
+    ensures in_bounds { IfOk result (λ n. n ≤ length text.new) }
+    ensures value { IfOk result (λ n. IfSome (R.remaining input) (λ all. take n text.new ≡ classroom_of all)) }
+{
+    let bytes = read(alloc, input, MOST)?;
+    Ok(lesson::classroom(&bytes, text))
+}
+
+// Writes the lines for an input.
+pub fn run<R: Read + Drop, W: Write>(alloc: Global, input: R, out: &mut W) -> io::Result<()>
+    ensures { OnOk result (IfSome (R.remaining input) (λ all. Appends (W.contents out.old) (W.contents out.new) (classroom_of all))) }
+{
+    let mut text = [0u8; TEXT];
+    let end = lines(alloc, input, &mut text)?;
+    out.write_all(&text[..end])
+}
+
+fn main(rt: HostRuntime) -> io::Result<()> {
+    run(rt.alloc(), rt.stdin(), &mut io::writer(&rt))
 }

@@ -3,14 +3,47 @@
 
 #![tactic(auto)]
 
-use libc::{STDIN_FILENO, STDOUT_FILENO};
+ghost use Rattle.std.specs.Prelude.{◌≡◌, ◌≤◌, length, take, vec_items, OnOk, IfOk, IfSome};
+ghost use Rattle.std.specs.Io.KnownBytes.{Appends};
+ghost use Rattle.cuts.specs.Cuts.{cuts_text};
+
+use cutter::TEXT;
+use std::alloc::Global;
+use std::io;
+use std::io::{Read, Write};
 
 // A number up to 32,500 and its line feed have 6 bytes at most (`one-number-short` of crates/script): what
-// fills this buffer is none.
-fn main() {
-    let mut input = [0u8; 7];
-    let n = io::read_full(STDIN_FILENO, &mut input);
-    let mut text = [0u8; cutter::TEXT];
-    let a = cutter::list(&input[..n], &mut text);
-    io::write_all(STDOUT_FILENO, &text[..a.run as usize]);
+// has so many bytes is none, and no more of it is read.
+const MOST: u64 = 7;
+
+// The first bytes of an input, up to `most`.
+fn read<R: Read + Drop>(alloc: Global, input: R, most: u64) -> io::Result<Vec<u8>>
+    ensures { IfOk result (λ bytes. IfSome (R.remaining input) (λ all. bytes.items ≡ take most all)) }
+{
+    let mut bytes = Vec::new(alloc);
+    input.take(most).read_to_end(&mut bytes)?;
+    Ok(bytes)
+}
+
+// The list that an input asks for. Answers how many bytes it has.
+fn list<R: Read + Drop>(alloc: Global, input: R, text: &mut [u8; TEXT]) -> io::Result<usize>
+    ensures in_bounds { IfOk result (λ n. n ≤ length text.new) }
+    ensures value { IfOk result (λ n. IfSome (R.remaining input) (λ all. take n text.new ≡ cuts_text all)) }
+{
+    let bytes = read(alloc, input, MOST)?;
+    let answer = cutter::list(&bytes, text);
+    Ok(answer.run as usize)
+}
+
+// Writes the list that an input asks for.
+pub fn run<R: Read + Drop, W: Write>(alloc: Global, input: R, out: &mut W) -> io::Result<()>
+    ensures { OnOk result (IfSome (R.remaining input) (λ all. Appends (W.contents out.old) (W.contents out.new) (cuts_text all))) }
+{
+    let mut text = [0u8; TEXT];
+    let end = list(alloc, input, &mut text)?;
+    out.write_all(&text[..end])
+}
+
+fn main(rt: HostRuntime) -> io::Result<()> {
+    run(rt.alloc(), rt.stdin(), &mut io::writer(&rt))
 }

@@ -3,6 +3,7 @@
 ghost use Rattle.std.specs.Prelude.{◌<◌};
 
 use crate::{make, show};
+use std::io;
 
 // Where a refusal that changed something is counted: above every number that there is.
 const BROKEN: u64 = 29;
@@ -51,47 +52,43 @@ fn place(number: u64) -> usize
 }
 
 // A number that was answered, and how often.
-fn line(number: usize, times: u64) {
+fn line(rt: &impl Print, number: usize, times: u64) -> io::Result<()> {
     if times == 0 {
-        return;
+        return Ok(());
     }
-    show::field(b" ", times);
-    show::field(b" x ", number as u64);
+    show::field(rt, b" ", times)?;
+    show::field(rt, b" x ", number as u64)
 }
 
 // The numbers with how often each was answered.
-fn lines(counts: &[u64; 30]) {
-    let mut i: usize = 0;
-    while i < 30 {
-        line(i, counts[i]);
-        i += 1;
+fn lines(rt: &impl Print, counts: &[u64; 30]) -> io::Result<()> {
+    for i in 0..30 {
+        line(rt, i, counts[i])?;
     }
-    show::say(b"\n");
+    show::say(rt, b"\n")
 }
 
 // The answers to all flag bytes in frames of n bytes.
-pub(crate) fn all(what: &[u8], held: bool, n: usize) {
+pub(crate) fn all(rt: &impl Print, what: &[u8], held: bool, n: usize) -> io::Result<()> {
     let mut counts = [0u64; 30];
-    let mut f: usize = 0;
-    while f < 256 {
-        let i = place(answer_to((f % 256) as u8, held, n));
-        counts[i] = std::num::wrapping_add_u64(counts[i], 1);
-        f += 1;
+    for f in 0..=255u8 {
+        let i = place(answer_to(f, held, n));
+        counts[i] = counts[i].wrapping_add(1);
     }
-    show::say(what);
-    lines(&counts);
+    show::say(rt, what)?;
+    lines(rt, &counts)
 }
 
 // The same where the id is arriving, and leaving in state 1: whole frames, and those of the lengths at which
 // answers change, and a byte shorter.
-pub(crate) fn lengths() {
-    all(b"flags, arriving, and leaving in state 1:", true, 1400);
-    all(b"  frames of 11:", true, 11);
-    all(b"  frames of 12:", true, 12);
-    all(b"  frames of 20:", true, 20);
-    all(b"  frames of 21:", true, 21);
-    all(b"  frames of 35:", true, 35);
-    all(b"  frames of 36:", true, 36);
-    all(b"  frames of 51:", true, 51);
-    all(b"  frames of 52:", true, 52);
+pub(crate) fn lengths(rt: &impl Print) -> io::Result<()> {
+    all(rt, b"flags, arriving, and leaving in state 1:", true, 1400)?;
+    all(rt, b"  frames of 11:", true, 11)?;
+    all(rt, b"  frames of 12:", true, 12)?;
+    all(rt, b"  frames of 20:", true, 20)?;
+    all(rt, b"  frames of 21:", true, 21)?;
+    all(rt, b"  frames of 35:", true, 35)?;
+    all(rt, b"  frames of 36:", true, 36)?;
+    all(rt, b"  frames of 51:", true, 51)?;
+    all(rt, b"  frames of 52:", true, 52)
 }

@@ -7,10 +7,8 @@ use rows::record::Record;
 // Whether every word after the first is an address.
 pub(crate) fn addresses(line: &[u8]) -> bool {
     let n = text::rest(line) as usize;
-    let mut k: usize = 0;
-    while k < n {
+    for k in 1..=n {
         let mut address = [0u8; 16];
-        k += 1;
         if !value::name(line, k, &mut address) {
             return false;
         }
@@ -21,9 +19,7 @@ pub(crate) fn addresses(line: &[u8]) -> bool {
 // Whether the line has the address at a: 1 or 0.
 fn listed(line: &[u8], recv: &[u8], a: usize) -> u64 {
     let n = text::rest(line) as usize;
-    let mut k: usize = 0;
-    while k < n {
-        k += 1;
+    for k in 1..=n {
         if value::is_bytes(line, k, recv, a, 16) {
             return 1;
         }
@@ -41,13 +37,11 @@ fn arriving(row: &[u8], id: &[u8]) -> bool {
 
 // The key mark of a packet: whether the line has the source in the arriving record of that id.
 pub(crate) fn mark(line: &[u8], recv: &[u8], id: &[u8]) -> u64 {
-    let mut k: usize = 0;
-    while k < record::COUNT {
+    for k in 0..record::COUNT {
         let a = record::FIRST + record::BYTES * k;
         if arriving(text::part(recv, a, record::BYTES), id) {
             return listed(line, recv, a + Record::SOURCE);
         }
-        k += 1;
     }
     0
 }

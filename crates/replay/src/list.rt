@@ -32,7 +32,7 @@ pub(crate) enum Outcome {
 // One more line of that kind.
 fn bump(counts: &mut [u64; kind::OTHER], kind: usize) {
     if kind < kind::OTHER {
-        counts[kind] = std::num::wrapping_add_u64(counts[kind], 1);
+        counts[kind] = counts[kind].wrapping_add(1);
     }
 }
 

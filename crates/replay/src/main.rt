@@ -17,60 +17,59 @@ mod told;
 mod value;
 
 use list::Outcome;
+use std::io::Read;
+use std::rt::Files;
+use std::{env, fs, io};
+
+// A list that has so many bytes is too long.
+const MOST: usize = 131072;
 
 // Replays the list of that text, and says what came of it. Answers how many differ: 0 or 1.
-fn replay(text: &[u8]) -> u64 {
+fn replay(rt: &impl Print, text: &[u8]) -> io::Result<u64> {
     let mut counts = [0u64; kind::OTHER];
     match node::replay(text, &mut counts) {
         Outcome::Same => {
-            show::counts(&counts);
-            0
+            show::counts(rt, &counts)?;
+            Ok(0)
         }
         Outcome::Differs(at, why) => {
-            show::why(
-                std::num::wrapping_add_u64(text::count(text::part(text, 0, at), b'\n'), 1),
-                why,
-            );
-            1
+            let line = text::count(text::part(text, 0, at), b'\n').wrapping_add(1);
+            show::why(rt, line, why)?;
+            Ok(1)
         }
     }
 }
 
-// Replays the list in the file of that name, which has to be shorter than the buffer.
-fn file(name: &[u8]) -> u64 {
-    show::say(name);
-    let file = os::open_read(name);
-    if file < 0 {
-        show::say(b": it cannot be opened\n");
-        return 1;
+// Replays the list in the file of that name.
+fn file<R: Files + Alloc + Print>(rt: &R, name: &str) -> io::Result<u64> {
+    show::say(rt, name.as_bytes())?;
+    let Ok(file) = fs::open(rt, name) else {
+        show::say(rt, b": it cannot be opened\n")?;
+        return Ok(1);
+    };
+    let mut text = Vec::new(rt.alloc());
+    file.take(MOST as u64).read_to_end(&mut text)?;
+    if text.len() == MOST {
+        show::say(rt, b": it is too long\n")?;
+        return Ok(1);
     }
-    let mut text = [0u8; 131072];
-    let n = io::read_full(file, &mut text);
-    libc::close(file);
-    if n == text.len() {
-        show::say(b": it is too long\n");
-        return 1;
-    }
-    replay(&text[..n])
+    replay(rt, &text)
 }
 
-// Replays the list that argument k names.
-fn argument(k: usize) -> u64 {
-    let mut name = io::buffer();
-    let n = os::arg(k, &mut name);
-    file(&name[..n])
+// Replays the list that an argument names.
+fn argument<R: Files + Alloc + Print>(rt: &R, name: String<R::A>) -> io::Result<u64> {
+    file(rt, &name)
 }
 
 // Replays the lists that the arguments name.
-fn main() {
-    let all = os::arg_count();
+fn main(rt: HostRuntime) -> io::Result<()> {
+    let mut all: u64 = 0;
     let mut differ: u64 = 0;
-    let mut k: usize = 1;
-    while k < all {
-        differ = std::num::wrapping_add_u64(differ, argument(k));
-        k += 1;
+    for name in env::args(&rt)?.skip(1) {
+        differ = differ.wrapping_add(argument(&rt, name)?);
+        all = all.wrapping_add(1);
     }
-    show::field(b"", std::num::wrapping_sub_u64(k as u64, 1));
-    show::field(b" lists replayed, ", differ);
-    show::say(b" with a difference\n");
+    show::field(&rt, b"", all)?;
+    show::field(&rt, b" lists replayed, ", differ)?;
+    show::say(&rt, b" with a difference\n")
 }

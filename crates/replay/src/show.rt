@@ -2,51 +2,51 @@
 
 use crate::kind;
 use crate::told::Why;
-use libc::STDOUT_FILENO;
+use std::io;
 
 // Text.
-pub(crate) fn say(text: &[u8]) {
-    io::write_all(STDOUT_FILENO, text);
+pub(crate) fn say(rt: &impl Print, text: &[u8]) -> io::Result<()> {
+    rt.write_all(text)
 }
 
 // A number behind its name.
-pub(crate) fn field(name: &[u8], n: u64) {
-    say(name);
-    io::print_decimal(STDOUT_FILENO, n);
+pub(crate) fn field(rt: &impl Print, name: &[u8], n: u64) -> io::Result<()> {
+    say(rt, name)?;
+    rt.print(n)
 }
 
 // How many lines of each kind agree.
-pub(crate) fn counts(counts: &[u64; kind::OTHER]) {
-    field(b": push ", counts[kind::PUSH]);
-    field(b", packet ", counts[kind::PACKET]);
-    field(b", wake ", counts[kind::WAKE]);
-    field(b", report ", counts[kind::REPORT]);
-    field(b", take ", counts[kind::TAKE]);
-    field(b", rules ", counts[kind::RULES]);
-    field(b", known ", counts[kind::KNOWN]);
-    field(b"; number ", counts[kind::NUMBER]);
-    field(b", > ", counts[kind::SENT]);
-    field(b", = ", counts[kind::SHOWN]);
-    field(b", woke ", counts[kind::WOKE]);
-    field(b", unseen ", counts[kind::UNSEEN]);
-    say(b"\n");
+pub(crate) fn counts(rt: &impl Print, counts: &[u64; kind::OTHER]) -> io::Result<()> {
+    field(rt, b": push ", counts[kind::PUSH])?;
+    field(rt, b", packet ", counts[kind::PACKET])?;
+    field(rt, b", wake ", counts[kind::WAKE])?;
+    field(rt, b", report ", counts[kind::REPORT])?;
+    field(rt, b", take ", counts[kind::TAKE])?;
+    field(rt, b", rules ", counts[kind::RULES])?;
+    field(rt, b", known ", counts[kind::KNOWN])?;
+    field(rt, b"; number ", counts[kind::NUMBER])?;
+    field(rt, b", > ", counts[kind::SENT])?;
+    field(rt, b", = ", counts[kind::SHOWN])?;
+    field(rt, b", woke ", counts[kind::WOKE])?;
+    field(rt, b", unseen ", counts[kind::UNSEEN])?;
+    say(rt, b"\n")
 }
 
 // What is wrong with a line.
-pub(crate) fn why(line: u64, why: Why) {
-    field(b": line ", line);
+pub(crate) fn why(rt: &impl Print, line: u64, why: Why) -> io::Result<()> {
+    field(rt, b": line ", line)?;
     match why {
-        Why::Form => say(b": it is not of the form"),
-        Why::Number(n) => field(b": the library's number is ", n),
-        Why::Mark(n) => field(b": the library's wake mark is ", n),
+        Why::Form => say(rt, b": it is not of the form")?,
+        Why::Number(n) => field(rt, b": the library's number is ", n)?,
+        Why::Mark(n) => field(rt, b": the library's wake mark is ", n)?,
         Why::Word(k) => {
-            field(b": word ", k);
-            say(b" is not what the library gives");
+            field(rt, b": word ", k)?;
+            say(rt, b" is not what the library gives")?;
         }
-        Why::Fewer => say(b": the library puts out no such packet"),
-        Why::More => say(b": the library puts out more packets"),
-        Why::Nothing => say(b": the library shows nothing"),
-        Why::Something => say(b": the library shows a report or a message"),
+        Why::Fewer => say(rt, b": the library puts out no such packet")?,
+        Why::More => say(rt, b": the library puts out more packets")?,
+        Why::Nothing => say(rt, b": the library shows nothing")?,
+        Why::Something => say(rt, b": the library shows a report or a message")?,
     }
-    say(b"\n");
+    say(rt, b"\n")
 }

@@ -24,25 +24,21 @@ pub(crate) fn find(s: &[u8], from: usize, b: u8) -> usize
     requires { from ≤ length s.now }
     ensures { (from ≤ result) × (result ≤ length s.now) }
 {
-    let mut i = from;
-    while i < s.len() {
+    for i in from..s.len() {
         if s[i] == b {
             return i;
         }
-        i += 1;
     }
-    i
+    s.len()
 }
 
 // How often b stands in s.
 pub(crate) fn count(s: &[u8], b: u8) -> u64 {
     let mut n: u64 = 0;
-    let mut i: usize = 0;
-    while i < s.len() {
+    for i in 0..s.len() {
         if s[i] == b {
-            n = std::num::wrapping_add_u64(n, 1);
+            n = n.wrapping_add(1);
         }
-        i += 1;
     }
     n
 }
@@ -79,14 +75,12 @@ fn start(line: &[u8], k: usize) -> usize
     ensures { result ≤ length line.now }
 {
     let mut at: usize = 0;
-    let mut i: usize = 0;
-    while i < k {
+    for _ in 0..k {
         let end = find(line, at, b' ');
         if end == line.len() {
             return end;
         }
         at = end + 1;
-        i += 1;
     }
     at
 }

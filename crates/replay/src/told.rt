@@ -126,24 +126,18 @@ fn sent(line: &[u8], mut call: Call, run: &[u8]) -> Told {
     if at as u64 >= call.run {
         return Told::Differs(Why::Fewer);
     }
-    if !value::is_bytes(
-        line,
-        1,
-        run,
-        std::num::wrapping_add_usize(at, run::FROM),
-        16,
-    ) {
+    if !value::is_bytes(line, 1, run, at.wrapping_add(run::FROM), 16) {
         return Told::Differs(Why::Word(1));
     }
-    if !value::is_bytes(line, 2, run, std::num::wrapping_add_usize(at, run::TO), 16) {
+    if !value::is_bytes(line, 2, run, at.wrapping_add(run::TO), 16) {
         return Told::Differs(Why::Word(2));
     }
     let size = value::joined(text::part(run, at, run::FROM)) as usize;
-    let start = std::num::wrapping_add_usize(at, run::PACKET);
+    let start = at.wrapping_add(run::PACKET);
     if !value::is_bytes(line, 3, run, start, size) {
         return Told::Differs(Why::Word(3));
     }
-    call.sent = std::num::wrapping_add_usize(start, size);
+    call.sent = start.wrapping_add(size);
     Told::Same(call)
 }
 

@@ -33,8 +33,7 @@ fn hex(word: &[u8], out: &mut [u8]) -> bool {
     if word.len() / 2 != out.len() {
         return false;
     }
-    let mut i: usize = 0;
-    while i < out.len() {
+    for i in 0..out.len() {
         let high = digit(word[2 * i]);
         let low = digit(word[2 * i + 1]);
         if high > 15 {
@@ -44,7 +43,6 @@ fn hex(word: &[u8], out: &mut [u8]) -> bool {
             return false;
         }
         out[i] = 16 * high + low;
-        i += 1;
     }
     true
 }
@@ -55,8 +53,7 @@ fn decimal(word: &[u8]) -> Value {
         return Value::Bad;
     }
     let mut n: u64 = 0;
-    let mut i: usize = 0;
-    while i < word.len() {
+    for i in 0..word.len() {
         let d = digit(word[i]);
         if d > 9 {
             return Value::Bad;
@@ -66,7 +63,6 @@ fn decimal(word: &[u8]) -> Value {
             return Value::Bad;
         }
         n = 10 * n + v;
-        i += 1;
     }
     Value::Is(n)
 }
@@ -170,10 +166,8 @@ pub(crate) fn flag(line: &[u8], k: usize) -> Value {
 // The number of the bytes of s, the highest first.
 pub(crate) fn joined(s: &[u8]) -> u64 {
     let mut n: u64 = 0;
-    let mut i: usize = 0;
-    while i < s.len() {
+    for i in 0..s.len() {
         n = (n << 8) | octets::wide(s[i]);
-        i += 1;
     }
     n
 }

@@ -6,14 +6,12 @@
 
 ghost use Rattle.std.specs.Prelude.{◌≡◌, ◌+◌, ◌≤◌, ◌<◌, length};
 
-use libc::STDOUT_FILENO;
+use std::io;
 
 // A count, behind what is counted.
-fn line(what: &[u8], n: u64) {
-    io::write_all(STDOUT_FILENO, what);
-    io::write_all(STDOUT_FILENO, b": ");
-    io::print_decimal(STDOUT_FILENO, n);
-    io::write_all(STDOUT_FILENO, b"\n");
+fn line(rt: &impl Print, what: &[u8], n: u64) -> io::Result<()> {
+    rt.write_all(what)?;
+    println!(rt; ": {n}")
 }
 
 // 1 for yes.
@@ -28,10 +26,8 @@ fn prefixes(s: &[u8], role: u64) -> u64
     requires { length s.now < 100000 }
 {
     let mut n: u64 = 0;
-    let mut k: usize = 0;
-    while k <= s.len() {
+    for k in 0..=s.len() {
         n += one(soundness::sound(&s[..k], role));
-        k += 1;
     }
     n
 }
@@ -47,10 +43,8 @@ fn fresh(s: &mut [u8], role: u64) -> u64
     requires { length s.old < 100000 }
 {
     let mut n: u64 = 0;
-    let mut k: usize = 0;
-    while k <= s.len() {
+    for k in 0..=s.len() {
         n += one(made(&mut s[..k], role));
-        k += 1;
     }
     n
 }
@@ -63,11 +57,9 @@ fn values(s: &mut [u8], a: usize, role: u64) -> u64
 {
     let old = s[a];
     let mut n: u64 = 0;
-    let mut v: u64 = 0;
-    while v < 256 {
+    for v in 0u64..256 {
         s[a] = v as u8;
         n += one(soundness::sound(s, role));
-        v += 1;
     }
     s[a] = old;
     n
@@ -79,28 +71,23 @@ fn all_values(s: &mut [u8], a: usize, e: usize, role: u64) -> u64
     ensures { length s.new ≡ length s.old }
 {
     let mut n: u64 = 0;
-    let mut k: usize = a;
-    while k < e {
+    for k in a..e {
         n += values(s, k, role);
-        k += 1;
     }
     n
 }
 
 // The same of each byte of the head, in one line.
-fn head(s: &mut [u8], role: u64)
+fn head(rt: &impl Print, s: &mut [u8], role: u64) -> io::Result<()>
     requires { 16 ≤ length s.old }
     ensures { length s.new ≡ length s.old }
 {
-    io::write_all(STDOUT_FILENO, b"  values of each head byte:");
-    let mut k: usize = 0;
-    while k < 16 {
+    rt.write_all(b"  values of each head byte:")?;
+    for k in 0..16 {
         let n = values(s, k, role);
-        io::write_all(STDOUT_FILENO, b" ");
-        io::print_decimal(STDOUT_FILENO, n);
-        k += 1;
+        print!(rt; " {n}")?;
     }
-    io::write_all(STDOUT_FILENO, b"\n");
+    rt.write_all(b"\n")
 }
 
 // The bytes where the records 1 and 2 and the cells 1 and 2 of a store of two cells start.
@@ -179,43 +166,61 @@ fn with(s: &mut [u8; 5400], a: usize, v: u8, role: u64) -> u64
 }
 
 // Chains that lead back, and rows in two chains.
-fn chains() {
+fn chains(rt: &impl Print) -> io::Result<()> {
     let mut s = [0u8; 5400];
     soundness::setup(&mut s, 1);
-    line(b"free record 8 leads to 1", with(&mut s, 2312, 1, 1));
-    line(b"free record 1 leads to itself", with(&mut s, R1, 1, 1));
-    line(b"free cell 2 leads to 1", with(&mut s, C2, 1, 1));
+    line(rt, b"free record 8 leads to 1", with(&mut s, 2312, 1, 1))?;
+    line(rt, b"free record 1 leads to itself", with(&mut s, R1, 1, 1))?;
+    line(rt, b"free cell 2 leads to 1", with(&mut s, C2, 1, 1))?;
     received(&mut s);
-    line(b"a held record leads to itself", with(&mut s, R1, 1, 1));
-    line(b"a whole record leads to itself", with(&mut s, R2, 2, 1));
+    line(rt, b"a held record leads to itself", with(&mut s, R1, 1, 1))?;
     line(
+        rt,
+        b"a whole record leads to itself",
+        with(&mut s, R2, 2, 1),
+    )?;
+    line(
+        rt,
         b"a held record leads to a whole one",
         with(&mut s, R1, 2, 1),
-    );
+    )?;
     line(
+        rt,
         b"a free record leads to a held one",
         with(&mut s, 2312, 1, 1),
-    );
-    line(b"a piece leads to itself", with(&mut s, C1, 1, 1));
-    line(b"a piece leads to another record's", with(&mut s, C1, 2, 1));
-    line(b"two ids are one", with(&mut s, R1 + 15, 2, 1));
+    )?;
+    line(rt, b"a piece leads to itself", with(&mut s, C1, 1, 1))?;
     line(
+        rt,
+        b"a piece leads to another record's",
+        with(&mut s, C1, 2, 1),
+    )?;
+    line(rt, b"two ids are one", with(&mut s, R1 + 15, 2, 1))?;
+    line(
+        rt,
         b"a whole record is one slot larger",
         with(&mut s, R2 + 7, 2, 1),
-    );
+    )?;
     line(
+        rt,
         b"an arriving record is one slot larger",
         with(&mut s, R1 + 7, 3, 1),
-    );
-    line(b"one byte of a free record is 1", with(&mut s, 1000, 1, 1));
+    )?;
     line(
+        rt,
+        b"one byte of a free record is 1",
+        with(&mut s, 1000, 1, 1),
+    )?;
+    line(
+        rt,
         b"one byte past a piece is 1",
         with(&mut s, C1 + 16 + 300, 1, 1),
-    );
+    )?;
     line(
+        rt,
         b"one byte of a piece is 1",
         with(&mut s, C1 + 16 + 299, 1, 1),
-    );
+    )
 }
 
 // Where the cells of a store of 45 cells start, behind its records.
@@ -225,13 +230,11 @@ const CELLS: usize = 2640;
 fn chained(s: &mut [u8; 64740], first: usize, end: usize, size: u64)
     requires { (1 ≤ first) × (first ≤ end) × (end ≤ 46) × (size < 65536) }
 {
-    let mut c: usize = first;
-    while c < end {
+    for c in first..end {
         let o = CELLS + 1380 * (c - 1);
         s[o + 1] = (c - first) as u8;
         s[o + 2] = (size / 256) as u8;
         s[o + 3] = (size % 256) as u8;
-        c += 1;
     }
     if first < end {
         s[CELLS + 1380 * (end - 2)] = 0;
@@ -290,11 +293,9 @@ fn splits(s: &mut [u8; 64740], n: usize, source: u8) -> u64
     requires { n ≤ 45 }
 {
     let mut found: u64 = 0;
-    let mut k: usize = 0;
-    while k <= n {
+    for k in 0..=n {
         shared(s, k, n, source);
         found += one(soundness::sound(s, 1));
-        k += 1;
     }
     found
 }
@@ -332,82 +333,93 @@ fn leaving(s: &mut [u8; 64740]) -> u64 {
 }
 
 // The cells of one source, and of two.
-fn sources() {
+fn sources(rt: &impl Print) -> io::Result<()> {
     let mut s = [0u8; 64740];
     line(
+        rt,
         b"30 pieces of two records of a source",
         splits(&mut s, 30, 1),
-    );
+    )?;
     line(
+        rt,
         b"31 pieces of two records of a source",
         splits(&mut s, 31, 1),
-    );
-    line(b"31 pieces of two sources", splits(&mut s, 31, 2));
-    line(b"45 pieces of two sources", splits(&mut s, 45, 2));
+    )?;
+    line(rt, b"31 pieces of two sources", splits(&mut s, 31, 2))?;
+    line(rt, b"45 pieces of two sources", splits(&mut s, 45, 2))?;
     line(
+        rt,
         b"29 pieces, and a whole record's of the source",
         with_whole(&mut s, 29, 1),
-    );
+    )?;
     line(
+        rt,
         b"30 pieces, and a whole record's of the source",
         with_whole(&mut s, 30, 1),
-    );
+    )?;
     line(
+        rt,
         b"30 pieces, and a whole record's of another",
         with_whole(&mut s, 30, 2),
-    );
-    line(b"45 pieces of a source that leave", leaving(&mut s));
+    )?;
+    line(rt, b"45 pieces of a source that leave", leaving(&mut s))
 }
 
 // A store with records, and the bytes near it.
-fn near(s: &mut [u8; 5400], role: u64, other: u64) {
-    line(b"  sound", one(soundness::sound(s, role)));
-    line(b"  in the other role", one(soundness::sound(s, other)));
-    line(b"  prefixes", prefixes(s, role));
-    head(s, role);
-    line(b"  values of record 1", all_values(s, R1, R2, role));
-    line(b"  values of record 2", all_values(s, R2, 672, role));
+fn near(rt: &impl Print, s: &mut [u8; 5400], role: u64, other: u64) -> io::Result<()> {
+    line(rt, b"  sound", one(soundness::sound(s, role)))?;
+    line(rt, b"  in the other role", one(soundness::sound(s, other)))?;
+    line(rt, b"  prefixes", prefixes(s, role))?;
+    head(rt, s, role)?;
+    line(rt, b"  values of record 1", all_values(s, R1, R2, role))?;
+    line(rt, b"  values of record 2", all_values(s, R2, 672, role))?;
     line(
+        rt,
         b"  values of cell 1, its first 16 bytes",
         all_values(s, C1, C1 + 16, role),
-    );
+    )?;
     line(
+        rt,
         b"  values of cell 2, its first 16 bytes",
         all_values(s, C2, C2 + 16, role),
-    );
+    )
 }
 
-fn main() {
+fn main(rt: HostRuntime) -> io::Result<()> {
     let mut all = [255u8; 64741];
-    line(b"255s, role 1", prefixes(&all, 1));
+    line(&rt, b"255s, role 1", prefixes(&all, 1))?;
     line(
+        &rt,
         b"fresh stores of a length to 64741, role 1",
         fresh(&mut all, 1),
-    );
+    )?;
     line(
+        &rt,
         b"fresh stores of a length to 64741, role 2",
         fresh(&mut all, 2),
-    );
+    )?;
     line(
+        &rt,
         b"fresh stores of a length to 64741, role 3",
         fresh(&mut all, 3),
-    );
+    )?;
     line(
+        &rt,
         b"fresh stores of a length to 64741, role 0",
         fresh(&mut all, 0),
-    );
+    )?;
     let mut s = [0u8; 5400];
-    line(b"zeros, role 1", prefixes(&s, 1));
-    line(b"zeros, role 0", prefixes(&s, 0));
-    io::write_all(STDOUT_FILENO, b"fresh, to receive\n");
+    line(&rt, b"zeros, role 1", prefixes(&s, 1))?;
+    line(&rt, b"zeros, role 0", prefixes(&s, 0))?;
+    rt.write_all(b"fresh, to receive\n")?;
     soundness::setup(&mut s, 1);
-    near(&mut s, 1, 2);
-    io::write_all(STDOUT_FILENO, b"with an arriving and a whole record\n");
+    near(&rt, &mut s, 1, 2)?;
+    rt.write_all(b"with an arriving and a whole record\n")?;
     received(&mut s);
-    near(&mut s, 1, 2);
-    io::write_all(STDOUT_FILENO, b"with a leaving record\n");
+    near(&rt, &mut s, 1, 2)?;
+    rt.write_all(b"with a leaving record\n")?;
     sent(&mut s);
-    near(&mut s, 2, 1);
-    chains();
-    sources();
+    near(&rt, &mut s, 2, 1)?;
+    chains(&rt)?;
+    sources(&rt)
 }

@@ -2,18 +2,17 @@
 
 #![tactic(auto)]
 
-use libc::STDOUT_FILENO;
-
 mod books;
 mod prefixes;
 
+use std::io;
+
 // Writes how many answers are the expected ones.
-fn count(right: u64) {
-    io::print_decimal(STDOUT_FILENO, right);
-    io::write_all(STDOUT_FILENO, b" as expected\n");
+fn count(rt: &impl Print, right: u64) -> io::Result<()> {
+    println!(rt; "{right} as expected")
 }
 
-fn main() {
-    count(prefixes::run());
-    count(books::run());
+fn main(rt: HostRuntime) -> io::Result<()> {
+    count(&rt, prefixes::run(&rt)?)?;
+    count(&rt, books::run(&rt)?)
 }

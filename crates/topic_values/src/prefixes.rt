@@ -4,7 +4,7 @@
 // ip_address(source) in ip_network((net, bits), strict=False).
 ghost use Rattle.std.specs.Prelude.{◌<◌};
 
-use libc::STDOUT_FILENO;
+use std::io;
 use topic::subnet::contains;
 
 // The byte of `x` that has `shift` bits below it.
@@ -37,69 +37,75 @@ fn address(high: u64, low: u64) -> [u8; 16] {
 }
 
 // Writes the answer for one address, and counts it where it is the expected one.
-fn prefix(right: u64, bits: u8, high: u64, low: u64, expected: bool) -> u64 {
+fn prefix(
+    rt: &impl Print,
+    right: u64,
+    bits: u8,
+    high: u64,
+    low: u64,
+    expected: bool,
+) -> io::Result<u64> {
     let net = address(0x20010db885a308d3, 0x13198a2e03707348);
     let source = address(high, low);
     let found = contains(&net, bits, &source);
-    io::print_decimal(STDOUT_FILENO, bits as u64);
     if found {
-        io::write_all(STDOUT_FILENO, b" inside\n");
+        println!(rt; "{bits} inside")?;
     } else {
-        io::write_all(STDOUT_FILENO, b" outside\n");
+        println!(rt; "{bits} outside")?;
     }
     if found == expected {
-        std::num::wrapping_add_u64(right, 1)
+        Ok(right.wrapping_add(1))
     } else {
-        right
+        Ok(right)
     }
 }
 
 // In the first two bytes.
-fn first(right: u64) -> u64 {
+fn first(rt: &impl Print, right: u64) -> io::Result<u64> {
     let mut n = right;
-    n = prefix(n, 0, 0xdffef2477a5cf72c, 0xece675d1fc8f8cb7, true);
-    n = prefix(n, 0, 0xa0010db885a308d3, 0x13198a2e03707348, true);
-    n = prefix(n, 1, 0x5ffef2477a5cf72c, 0xece675d1fc8f8cb7, true);
-    n = prefix(n, 1, 0x60010db885a308d3, 0x13198a2e03707348, true);
-    n = prefix(n, 1, 0xa0010db885a308d3, 0x13198a2e03707348, false);
-    n = prefix(n, 7, 0x21fef2477a5cf72c, 0xece675d1fc8f8cb7, true);
-    n = prefix(n, 7, 0x21010db885a308d3, 0x13198a2e03707348, true);
-    n = prefix(n, 7, 0x22010db885a308d3, 0x13198a2e03707348, false);
-    n = prefix(n, 8, 0x20fef2477a5cf72c, 0xece675d1fc8f8cb7, true);
-    n = prefix(n, 8, 0x20810db885a308d3, 0x13198a2e03707348, true);
-    n = prefix(n, 8, 0x21010db885a308d3, 0x13198a2e03707348, false);
-    n = prefix(n, 9, 0x207ef2477a5cf72c, 0xece675d1fc8f8cb7, true);
-    n = prefix(n, 9, 0x20410db885a308d3, 0x13198a2e03707348, true);
-    n = prefix(n, 9, 0x20810db885a308d3, 0x13198a2e03707348, false);
-    n
+    n = prefix(rt, n, 0, 0xdffef2477a5cf72c, 0xece675d1fc8f8cb7, true)?;
+    n = prefix(rt, n, 0, 0xa0010db885a308d3, 0x13198a2e03707348, true)?;
+    n = prefix(rt, n, 1, 0x5ffef2477a5cf72c, 0xece675d1fc8f8cb7, true)?;
+    n = prefix(rt, n, 1, 0x60010db885a308d3, 0x13198a2e03707348, true)?;
+    n = prefix(rt, n, 1, 0xa0010db885a308d3, 0x13198a2e03707348, false)?;
+    n = prefix(rt, n, 7, 0x21fef2477a5cf72c, 0xece675d1fc8f8cb7, true)?;
+    n = prefix(rt, n, 7, 0x21010db885a308d3, 0x13198a2e03707348, true)?;
+    n = prefix(rt, n, 7, 0x22010db885a308d3, 0x13198a2e03707348, false)?;
+    n = prefix(rt, n, 8, 0x20fef2477a5cf72c, 0xece675d1fc8f8cb7, true)?;
+    n = prefix(rt, n, 8, 0x20810db885a308d3, 0x13198a2e03707348, true)?;
+    n = prefix(rt, n, 8, 0x21010db885a308d3, 0x13198a2e03707348, false)?;
+    n = prefix(rt, n, 9, 0x207ef2477a5cf72c, 0xece675d1fc8f8cb7, true)?;
+    n = prefix(rt, n, 9, 0x20410db885a308d3, 0x13198a2e03707348, true)?;
+    n = prefix(rt, n, 9, 0x20810db885a308d3, 0x13198a2e03707348, false)?;
+    Ok(n)
 }
 
 // Around the middle.
-fn middle(right: u64) -> u64 {
+fn middle(rt: &impl Print, right: u64) -> io::Result<u64> {
     let mut n = right;
-    n = prefix(n, 63, 0x20010db885a308d2, 0xece675d1fc8f8cb7, true);
-    n = prefix(n, 63, 0x20010db885a308d2, 0x13198a2e03707348, true);
-    n = prefix(n, 63, 0x20010db885a308d1, 0x13198a2e03707348, false);
-    n = prefix(n, 64, 0x20010db885a308d3, 0xece675d1fc8f8cb7, true);
-    n = prefix(n, 64, 0x20010db885a308d3, 0x93198a2e03707348, true);
-    n = prefix(n, 64, 0x20010db885a308d2, 0x13198a2e03707348, false);
-    n = prefix(n, 65, 0x20010db885a308d3, 0x6ce675d1fc8f8cb7, true);
-    n = prefix(n, 65, 0x20010db885a308d3, 0x53198a2e03707348, true);
-    n = prefix(n, 65, 0x20010db885a308d3, 0x93198a2e03707348, false);
-    n
+    n = prefix(rt, n, 63, 0x20010db885a308d2, 0xece675d1fc8f8cb7, true)?;
+    n = prefix(rt, n, 63, 0x20010db885a308d2, 0x13198a2e03707348, true)?;
+    n = prefix(rt, n, 63, 0x20010db885a308d1, 0x13198a2e03707348, false)?;
+    n = prefix(rt, n, 64, 0x20010db885a308d3, 0xece675d1fc8f8cb7, true)?;
+    n = prefix(rt, n, 64, 0x20010db885a308d3, 0x93198a2e03707348, true)?;
+    n = prefix(rt, n, 64, 0x20010db885a308d2, 0x13198a2e03707348, false)?;
+    n = prefix(rt, n, 65, 0x20010db885a308d3, 0x6ce675d1fc8f8cb7, true)?;
+    n = prefix(rt, n, 65, 0x20010db885a308d3, 0x53198a2e03707348, true)?;
+    n = prefix(rt, n, 65, 0x20010db885a308d3, 0x93198a2e03707348, false)?;
+    Ok(n)
 }
 
 // In the last bits.
-fn last(right: u64) -> u64 {
+fn last(rt: &impl Print, right: u64) -> io::Result<u64> {
     let mut n = right;
-    n = prefix(n, 127, 0x20010db885a308d3, 0x13198a2e03707349, true);
-    n = prefix(n, 127, 0x20010db885a308d3, 0x13198a2e0370734a, false);
-    n = prefix(n, 128, 0x20010db885a308d3, 0x13198a2e03707348, true);
-    n = prefix(n, 128, 0x20010db885a308d3, 0x13198a2e03707349, false);
-    n
+    n = prefix(rt, n, 127, 0x20010db885a308d3, 0x13198a2e03707349, true)?;
+    n = prefix(rt, n, 127, 0x20010db885a308d3, 0x13198a2e0370734a, false)?;
+    n = prefix(rt, n, 128, 0x20010db885a308d3, 0x13198a2e03707348, true)?;
+    n = prefix(rt, n, 128, 0x20010db885a308d3, 0x13198a2e03707349, false)?;
+    Ok(n)
 }
 
 // Runs all of them, and gives how many answers are the expected ones.
-pub(crate) fn run() -> u64 {
-    last(middle(first(0)))
+pub(crate) fn run(rt: &impl Print) -> io::Result<u64> {
+    last(rt, middle(rt, first(rt, 0)?)?)
 }

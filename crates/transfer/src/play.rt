@@ -3,6 +3,7 @@
 use crate::{read, show};
 use answer::Answer;
 use calendar::ALWAYS;
+use std::io;
 
 // The most packets that a run has.
 const PACKETS: usize = 25;
@@ -12,35 +13,45 @@ const WAKES: u64 = 7;
 
 // The entry at a of a run comes to the node with these stores, and its reply goes into `reply`. Answers how long that is.
 pub(crate) fn arrive(
+    rt: &impl Print,
     recv: &mut [u8],
     send: &mut [u8],
     run: &[u8],
     a: usize,
     rules: &[u8],
     reply: &mut [u8],
-) -> u64 {
+) -> io::Result<u64> {
     let frame = read::packet(run, a);
-    let from = read::address(run, std::num::wrapping_add_usize(a, 2));
-    let to = read::address(run, std::num::wrapping_add_usize(a, 18));
-    show::packet(run, a, frame);
+    let from = read::address(run, a.wrapping_add(2));
+    let to = read::address(run, a.wrapping_add(18));
+    show::packet(rt, run, a, frame)?;
     let got = message::packet(recv, send, frame, &from, &to, rules, 1, reply);
-    show::say(b"  packet");
-    show::answer(got);
-    show::end();
-    got.run
+    show::say(rt, b"  packet")?;
+    show::answer(rt, got)?;
+    show::end(rt)?;
+    Ok(got.run)
 }
 
 // The packet of a run of one, if it has any, comes to the node with these stores, which send no reply to it.
-pub(crate) fn back(recv: &mut [u8], send: &mut [u8], run: &[u8], total: u64, rules: &[u8]) {
+pub(crate) fn back(
+    rt: &impl Print,
+    recv: &mut [u8],
+    send: &mut [u8],
+    run: &[u8],
+    total: u64,
+    rules: &[u8],
+) -> io::Result<()> {
     if total == 0 {
-        return;
+        return Ok(());
     }
     let mut none = [0u8; 86];
-    arrive(recv, send, run, 0, rules, &mut none);
+    arrive(rt, recv, send, run, 0, rules, &mut none)?;
+    Ok(())
 }
 
 // Each packet of a run comes to the office, and each reply back to the tablet.
 pub(crate) fn deliver(
+    rt: &impl Print,
     tablet_recv: &mut [u8],
     tablet_send: &mut [u8],
     office_recv: &mut [u8],
@@ -48,19 +59,18 @@ pub(crate) fn deliver(
     run: &[u8],
     total: u64,
     rules: &[u8],
-) {
+) -> io::Result<()> {
     let mut a: usize = 0;
-    let mut k: usize = 0;
-    while k < PACKETS {
+    for _ in 0..PACKETS {
         if a as u64 >= total {
-            return;
+            return Ok(());
         }
         let mut reply = [0u8; 86];
-        let n = arrive(office_recv, office_send, run, a, rules, &mut reply);
-        back(tablet_recv, tablet_send, &reply, n, rules);
-        a = std::num::wrapping_add_usize(a, read::ENTRY + read::size(run, a));
-        k += 1;
+        let n = arrive(rt, office_recv, office_send, run, a, rules, &mut reply)?;
+        back(rt, tablet_recv, tablet_send, &reply, n, rules)?;
+        a = a.wrapping_add(read::ENTRY + read::size(run, a));
     }
+    Ok(())
 }
 
 // A wake within hours.
@@ -70,6 +80,7 @@ pub(crate) fn wake(send: &mut [u8], kind: u64, id: &[u8; 8], clock: u64, run: &m
 
 // The tablet wakes from `start` on each 100 ms, until it sends nothing, and at most seven times.
 pub(crate) fn wakes(
+    rt: &impl Print,
     tablet_recv: &mut [u8],
     tablet_send: &mut [u8],
     office_recv: &mut [u8],
@@ -78,18 +89,18 @@ pub(crate) fn wakes(
     rules: &[u8],
     start: u64,
     run: &mut [u8],
-) {
+) -> io::Result<()> {
     let mut clock = start;
-    let mut k: u64 = 0;
-    while k < WAKES {
+    for _ in 0..WAKES {
         let woken = wake(tablet_send, 1, id, clock, run);
-        show::field(b"wake 1 at ", clock);
-        show::answer(woken);
-        show::end();
+        show::field(rt, b"wake 1 at ", clock)?;
+        show::answer(rt, woken)?;
+        show::end(rt)?;
         if woken.run == 0 {
-            return;
+            return Ok(());
         }
         deliver(
+            rt,
             tablet_recv,
             tablet_send,
             office_recv,
@@ -97,20 +108,20 @@ pub(crate) fn wakes(
             run,
             woken.run,
             rules,
-        );
-        clock = std::num::wrapping_add_u64(clock, 100);
-        k += 1;
+        )?;
+        clock = clock.wrapping_add(100);
     }
+    Ok(())
 }
 
 // What the tablet reports on a message.
-pub(crate) fn report(tablet_send: &[u8], id: &[u8; 8]) {
+pub(crate) fn report(rt: &impl Print, tablet_send: &[u8], id: &[u8; 8]) -> io::Result<()> {
     let mut out = [0u8; 44];
     let told = message::report(tablet_send, id, &mut out);
-    show::say(b"report");
-    show::answer(told);
+    show::say(rt, b"report")?;
+    show::answer(rt, told)?;
     if told.number == 0 {
-        show::report(&out);
+        show::report(rt, &out)?;
     }
-    show::end();
+    show::end(rt)
 }

@@ -21,10 +21,8 @@ fn wide(x: u8) -> u64 {
 // The number of the k bytes at a, the highest first.
 pub(crate) fn number(s: &[u8], a: usize, k: usize) -> u64 {
     let mut n: u64 = 0;
-    let mut i: usize = 0;
-    while i < k {
-        n = (n << 8) | wide(byte(s, std::num::wrapping_add_usize(a, i)));
-        i += 1;
+    for i in 0..k {
+        n = (n << 8) | wide(byte(s, a.wrapping_add(i)));
     }
     n
 }
@@ -32,10 +30,8 @@ pub(crate) fn number(s: &[u8], a: usize, k: usize) -> u64 {
 // The address at a.
 pub(crate) fn address(s: &[u8], a: usize) -> [u8; 16] {
     let mut out = [0u8; 16];
-    let mut i: usize = 0;
-    while i < 16 {
-        out[i] = byte(s, std::num::wrapping_add_usize(a, i));
-        i += 1;
+    for i in 0..16 {
+        out[i] = byte(s, a.wrapping_add(i));
     }
     out
 }
@@ -59,7 +55,7 @@ fn least(a: usize, b: usize) -> usize
 
 // The packet whose entry stands at a: as many bytes as its count says, or those of them that the run has.
 pub(crate) fn packet(run: &[u8], a: usize) -> &[u8] {
-    let from = least(std::num::wrapping_add_usize(a, ENTRY), run.len());
+    let from = least(a.wrapping_add(ENTRY), run.len());
     let to = from + least(size(run, a), run.len() - from);
     &run[from..to]
 }

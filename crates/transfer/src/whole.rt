@@ -3,6 +3,7 @@
 ghost use Rattle.std.specs.Prelude.{◌≤◌};
 
 use crate::{play, read, show};
+use std::io;
 
 // The longest message.
 const LONGEST: usize = 32500;
@@ -24,10 +25,8 @@ const OFFICE: [u8; 16] = [5, 0, 0, 0, 0, 0, 0, 0, 0, 0, 0, 0, 0, 0, 0, 2];
 // The data of the message with that key: byte i is 7 i + key, modulo 251.
 fn pattern(key: u8) -> [u8; 32500] {
     let mut out = [0u8; 32500];
-    let mut i: usize = 0;
-    while i < LONGEST {
+    for i in 0..LONGEST {
         out[i] = ((7 * i + key as usize) % 251) as u8;
-        i += 1;
     }
     out
 }
@@ -37,44 +36,43 @@ fn same(taken: &[u8], sent: &[u8]) -> bool {
     if read::number(taken, 48, 8) != sent.len() as u64 {
         return false;
     }
-    let mut i: usize = 0;
-    while i < sent.len() {
-        if read::byte(taken, std::num::wrapping_add_usize(RECORD, i)) != sent[i] {
+    for i in 0..sent.len() {
+        if read::byte(taken, RECORD.wrapping_add(i)) != sent[i] {
             return false;
         }
-        i += 1;
     }
     true
 }
 
 // The office takes a message, says whether it is the one that was sent, and the read packet goes to the tablet.
 fn take(
+    rt: &impl Print,
     tablet_recv: &mut [u8],
     tablet_send: &mut [u8],
     office_recv: &mut [u8],
     sent: &[u8],
     rules: &[u8],
-) {
+) -> io::Result<()> {
     let mut taken = [0u8; 32828];
     let mut run = [0u8; 46];
     let got = message::take(office_recv, &mut taken, &mut run);
-    show::say(b"take");
-    show::answer(got);
+    show::say(rt, b"take")?;
+    show::answer(rt, got)?;
     if got.number != 0 {
-        show::end();
-        return;
+        return show::end(rt);
     }
-    show::record(&taken);
+    show::record(rt, &taken)?;
     if same(&taken, sent) {
-        show::say(b", as pushed\n");
+        show::say(rt, b", as pushed\n")?;
     } else {
-        show::say(b", NOT as pushed\n");
+        show::say(rt, b", NOT as pushed\n")?;
     }
-    play::back(tablet_recv, tablet_send, &run, got.run, rules);
+    play::back(rt, tablet_recv, tablet_send, &run, got.run, rules)
 }
 
 // The tablet pushes a message, and its init comes to the office.
 fn push(
+    rt: &impl Print,
     tablet_recv: &mut [u8],
     tablet_send: &mut [u8],
     office_recv: &mut [u8],
@@ -84,7 +82,7 @@ fn push(
     sent: &[u8],
     rules: &[u8],
     run: &mut [u8],
-) {
+) -> io::Result<()> {
     let from = TABLET;
     let to = OFFICE;
     let pushed = message::push(
@@ -99,10 +97,11 @@ fn push(
         TRY,
         run,
     );
-    show::say(b"push");
-    show::answer(pushed);
-    show::end();
+    show::say(rt, b"push")?;
+    show::answer(rt, pushed)?;
+    show::end(rt)?;
     play::deliver(
+        rt,
         tablet_recv,
         tablet_send,
         office_recv,
@@ -110,11 +109,12 @@ fn push(
         run,
         pushed.run,
         rules,
-    );
+    )
 }
 
 // A message is pushed, and no more of it is sent.
 pub(crate) fn announce(
+    rt: &impl Print,
     tablet_recv: &mut [u8],
     tablet_send: &mut [u8],
     office_recv: &mut [u8],
@@ -122,9 +122,10 @@ pub(crate) fn announce(
     id: &[u8; 8],
     sent: &[u8],
     rules: &[u8],
-) {
+) -> io::Result<()> {
     let mut run = [0u8; 310];
     push(
+        rt,
         tablet_recv,
         tablet_send,
         office_recv,
@@ -134,12 +135,13 @@ pub(crate) fn announce(
         sent,
         rules,
         &mut run,
-    );
-    play::report(tablet_send, id);
+    )?;
+    play::report(rt, tablet_send, id)
 }
 
 // A message is pushed, and the tablet wakes until it has nothing to send.
 fn send(
+    rt: &impl Print,
     tablet_recv: &mut [u8],
     tablet_send: &mut [u8],
     office_recv: &mut [u8],
@@ -148,9 +150,10 @@ fn send(
     reply: u64,
     sent: &[u8],
     rules: &[u8],
-) {
+) -> io::Result<()> {
     let mut run = [0u8; 10960];
     push(
+        rt,
         tablet_recv,
         tablet_send,
         office_recv,
@@ -160,9 +163,10 @@ fn send(
         sent,
         rules,
         &mut run,
-    );
-    play::report(tablet_send, id);
+    )?;
+    play::report(rt, tablet_send, id)?;
     play::wakes(
+        rt,
         tablet_recv,
         tablet_send,
         office_recv,
@@ -171,11 +175,12 @@ fn send(
         rules,
         START,
         &mut run,
-    );
+    )
 }
 
 // The whole transfer of a message of that length, whose id ends in `key`.
 pub(crate) fn transfer(
+    rt: &impl Print,
     tablet_recv: &mut [u8],
     tablet_send: &mut [u8],
     office_recv: &mut [u8],
@@ -184,13 +189,14 @@ pub(crate) fn transfer(
     reply: u64,
     length: usize,
     rules: &[u8],
-)
+) -> io::Result<()>
     requires { length ≤ 32500 }
 {
     let data = pattern(key);
     let sent = &data[..length];
     let id = [0, 0, 0, 0, 0, 0, 0, key];
     send(
+        rt,
         tablet_recv,
         tablet_send,
         office_recv,
@@ -199,8 +205,8 @@ pub(crate) fn transfer(
         reply,
         sent,
         rules,
-    );
-    play::report(tablet_send, &id);
-    take(tablet_recv, tablet_send, office_recv, sent, rules);
-    play::report(tablet_send, &id);
+    )?;
+    play::report(rt, tablet_send, &id)?;
+    take(rt, tablet_recv, tablet_send, office_recv, sent, rules)?;
+    play::report(rt, tablet_send, &id)
 }

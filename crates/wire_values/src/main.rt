@@ -4,14 +4,14 @@
 
 #![tactic(auto)]
 
-use libc::STDOUT_FILENO;
 use packet::header::Kind;
+use std::io;
 
 const DIGITS: [u8; 16] = *b"0123456789abcdef";
 
 // A line end.
-fn line() {
-    io::write_all(STDOUT_FILENO, b"\n");
+fn line(rt: &impl Print) -> io::Result<()> {
+    rt.write_all(b"\n")
 }
 
 // The two hexadecimal digits of a byte.
@@ -20,14 +20,11 @@ fn hex(b: u8) -> [u8; 2] {
 }
 
 // A line with the bytes in hexadecimal.
-fn write_hex(s: &[u8]) {
-    let mut i: usize = 0;
-    while i < s.len() {
-        let pair = hex(s[i]);
-        io::write_all(STDOUT_FILENO, &pair);
-        i += 1;
+fn write_hex(rt: &impl Print, s: &[u8]) -> io::Result<()> {
+    for b in s {
+        rt.write_all(&hex(*b))?;
     }
-    line();
+    line(rt)
 }
 
 // A letter for each kind, small for an acknowledgement.
@@ -46,81 +43,74 @@ fn letter(k: Kind) -> u8 {
 }
 
 // The kinds of all flag bytes, 32 to a line.
-fn kinds() {
-    let mut f: usize = 0;
-    while f < 256 {
-        let one = [letter(packet::header::kind_of((f % 256) as u8))];
-        io::write_all(STDOUT_FILENO, &one);
+fn kinds(rt: &impl Print) -> io::Result<()> {
+    for f in 0..=255u8 {
+        rt.write_all(&[letter(packet::header::kind_of(f))])?;
         if f % 32 == 31 {
-            line();
+            line(rt)?;
         }
-        f += 1;
     }
+    Ok(())
 }
 
 // The key number k: byte j is 37 k + 11 j.
 fn key(k: usize) -> [u8; 32] {
     let mut out = [0u8; 32];
-    let mut j: usize = 0;
-    while j < 32 {
+    for j in 0..32 {
         out[j] = ((37 * (k % 256) + 11 * j) % 256) as u8;
-        j += 1;
     }
     out
 }
 
 // The addresses of a dozen keys.
-fn addresses() {
-    let mut k: usize = 0;
-    while k < 12 {
+fn addresses(rt: &impl Print) -> io::Result<()> {
+    for k in 0..12 {
         let mut out = [0u8; 16];
         let of = key(k);
         address::address(&of, &mut out);
-        write_hex(&out);
-        k += 1;
+        write_hex(rt, &out)?;
     }
+    Ok(())
 }
 
 // A frame: byte i is 7 i + 3.
 fn frame() -> [u8; 1400] {
     let mut out = [0u8; 1400];
-    let mut i: usize = 0;
-    while i < 1400 {
+    for i in 0..1400 {
         out[i] = ((7 * i + 3) % 256) as u8;
-        i += 1;
     }
     out
 }
 
 // An entry of each kind of packet, written three bytes into a buffer of 0xEE.
-fn packets() {
+fn packets(rt: &impl Print) -> io::Result<()> {
     let from = [0xaau8; 16];
     let to = [0xbbu8; 16];
     let id = [1, 2, 3, 4, 5, 6, 7, 8];
     let mut run = [0xeeu8; 100];
     let label = packet::label::labelled(&id, &from, &to, true, 32500);
     packet::run::put_init(&mut run, 3, label, b"duct");
-    write_hex(&run);
+    write_hex(rt, &run)?;
     let mut run = [0xeeu8; 100];
     let position = packet::run::Position {
         index: 24,
         offset: 31200,
     };
     packet::run::put_chunk(&mut run, 3, &from, &to, &id, position, b"airflow");
-    write_hex(&run);
+    write_hex(rt, &run)?;
     let mut run = [0xeeu8; 100];
     packet::run::put_done(&mut run, 3, &from, &to, &id, 25, &key(1));
-    write_hex(&run);
+    write_hex(rt, &run)?;
     let mut run = [0xeeu8; 100];
     packet::run::put_header(&mut run, 3, &from, &to, &id, packet::header::FLAG_ABORTED);
-    write_hex(&run);
+    write_hex(rt, &run)?;
     let mut run = [0xeeu8; 100];
     packet::run::put_header(&mut run, 3, &from, &to, &id, packet::header::FLAG_READ);
-    write_hex(&run);
+    write_hex(rt, &run)
 }
 
 // The entry of an init with the longest topic there can be.
-fn longest_topic() {
+fn longest_topic(rt: &impl Print) -> io::Result<()> {
     let from = [0xaau8; 16];
     let to = [0xbbu8; 16];
     let id = [1, 2, 3, 4, 5, 6, 7, 8];
@@ -128,53 +118,50 @@ fn longest_topic() {
     let mut run = [0xeeu8; 320];
     let label = packet::label::labelled(&id, &from, &to, false, 0);
     packet::run::put_init(&mut run, 3, label, &topic);
-    write_hex(&run);
+    write_hex(rt, &run)
 }
 
 // The three replies to a frame, and its fields.
-fn replies() {
+fn replies(rt: &impl Print) -> io::Result<()> {
     let from = [0xaau8; 16];
     let to = [0xbbu8; 16];
     let f = frame();
     let mut run = [0xeeu8; 100];
     packet::run::put_reply(&mut run, 3, &from, &to, &f, 21);
-    write_hex(&run);
+    write_hex(rt, &run)?;
     let mut run = [0xeeu8; 100];
     packet::run::put_reply(&mut run, 3, &from, &to, &f, 36);
-    write_hex(&run);
+    write_hex(rt, &run)?;
     let mut run = [0xeeu8; 100];
     packet::run::put_reply(&mut run, 3, &from, &to, &f, 52);
-    write_hex(&run);
+    write_hex(rt, &run)
 }
 
 // The topic that a frame gives as an init, if all of it came.
-fn topic(frame: &[u8]) {
+fn topic(rt: &impl Print, frame: &[u8]) -> io::Result<()> {
     if packet::init::MessageInit::came(frame) {
-        write_hex(packet::reader::topic(frame));
+        write_hex(rt, packet::reader::topic(frame))?;
     }
+    Ok(())
 }
 
 // The fields that a frame gives as each kind of packet.
-fn fields() {
+fn fields(rt: &impl Print) -> io::Result<()> {
     let f = frame();
-    write_hex(packet::reader::id(&f));
-    io::print_decimal(STDOUT_FILENO, packet::reader::length(&f));
-    line();
-    topic(&f);
-    io::print_decimal(STDOUT_FILENO, packet::reader::index(&f));
-    line();
-    io::print_decimal(STDOUT_FILENO, packet::reader::offset(&f));
-    line();
-    io::print_decimal(STDOUT_FILENO, packet::reader::size(&f) as u64);
-    line();
-    write_hex(packet::reader::sum(&f));
+    write_hex(rt, packet::reader::id(&f))?;
+    rt.println(packet::reader::length(&f))?;
+    topic(rt, &f)?;
+    rt.println(packet::reader::index(&f))?;
+    rt.println(packet::reader::offset(&f))?;
+    rt.println(packet::reader::size(&f))?;
+    write_hex(rt, packet::reader::sum(&f))
 }
 
-fn main() {
-    kinds();
-    addresses();
-    packets();
-    longest_topic();
-    replies();
-    fields();
+fn main(rt: HostRuntime) -> io::Result<()> {
+    kinds(&rt)?;
+    addresses(&rt)?;
+    packets(&rt)?;
+    longest_topic(&rt)?;
+    replies(&rt)?;
+    fields(&rt)
 }

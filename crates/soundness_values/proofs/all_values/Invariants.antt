@@ -1,0 +1,6 @@
+-- Each byte counts 256 times at most.
+use Rattle.std.proofs.Common.{◌*◌, ◌≤◌}
+use Rattle.soundness_values.proofs.all_values.Given as goal
+
+abbrev pub invariant-loop-k : goal.invariant-loop-k
+invariant-loop-k l = l.n ≤ 256 * l.k

@@ -6,7 +6,6 @@ use Rattle.blake3.specs.Tree.{block_len, chunk_len, chunk_end, word_at, block_at
 use Rattle.blake3.specs.Split.{Left}
 use Rattle.blake3.specs.Laws.{node-chunk, node-parent}
 use Rattle.blake3.specs.FourChunks.{last_block, block_node, end_node, value_at}
-use Rattle.blake3.specs.declared.node.Node.{Node}
 use Rattle.blake3.proofs.Laws.{ended}
 use Rattle.blake3.proofs.LaneLaws.{ext}
 

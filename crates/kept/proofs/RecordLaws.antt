@@ -11,9 +11,8 @@ use Rattle.std.proofs.Math.Option.{none, some}
 use Rattle.std.proofs.Math.ListN.{length}
 use Rattle.std.proofs.Math.Dec.{eqb, leb, ltb}
 use borrow.Author.Tests.{eqb-true, eq-eqb, ne_eqb, leb-true, leb-false, le-leb, ltb-true, lt-ltb, le-ltb}
-use Rattle.octets.specs.BoolsLaws.{cases, iff, split}
+use Rattle.octets.specs.BoolsLaws.{cases, iff}
 use Rattle.octets.specs.CompareLaws.{same_refl}
-use Rattle.octets.specs.Lists.{all}
 use Rattle.blake3.specs.Tree.{blake3}
 use Rattle.packet.specs.Frame.{largest_piece}
 use Rattle.machine.specs.Limits.{longest, least_piece, slots_of, top_of}

@@ -1,6 +1,6 @@
 -- Between two equal inits no acknowledged piece is lost, over every list of calls in which the id is not restarted by another init, aborted, made whole
 -- or set up anew (`between-inits`). Assumes nothing.
-use Rattle.std.specs.Prelude.{ℕ, ◌≤◌, ◌≡◌, true, false, cond, eqb}
+use Rattle.std.specs.Prelude.{ℕ, ◌≤◌, ◌≡◌, true, cond, eqb}
 use Rattle.std.proofs.Math.Path.{refl}
 use Rattle.std.proofs.Common.{sym, ap, ◌∙◌, eqb-true}
 use mathlib.Core.List.{List, [], ◌∷◌, ◌++◌}
@@ -10,17 +10,14 @@ use Rattle.octets.specs.Lists.{All}
 use Rattle.packet.specs.declared.header.Kind.{Kind}
 use Rattle.packet.specs.declared.header.Kind.TheVariants.{Init, Chunk, Done, Read, Aborted, AckInit, AckChunk, AckDone, Nothing}
 use Rattle.machine.specs.Limits.{most_cells}
-use Rattle.machine.specs.Values.{Label, Rec, Key, key_of, same_key, equal_in_five, repeats}
-use Rattle.machine.specs.Layout.{decode}
-use Rattle.machine.specs.Pieces.{piece_bytes}
-use Rattle.machine.specs.Receive.{found}
+use Rattle.machine.specs.Values.{Label, Rec, Key, same_key, equal_in_five}
 use Rattle.machine.specs.Typed.{TypedPacket}
 use Rattle.machine.specs.Packet.{Packet, kind, asked, init_label}
 use Rattle.machine_laws.specs.Keys.{key-eq, key-refl, five-eq}
 use Rattle.ledger.specs.Run.{receive, send, Stores, Call, setup, packet, push, wake, report, take_whole, answer, after, left, answered, fresh_stores, Typed}
-use Rattle.ledger.specs.Ledger.{Piece, Page, Book, Ledger, look, page_label, opening, init_in, packet_in, enter, ledger}
+use Rattle.ledger.specs.Ledger.{Piece, Page, Book, Ledger, look, opening, init_in, packet_in, enter, ledger}
 use Rattle.ledger.specs.Between.{leaves_open, spares, Spared, with_chunk, acked_by, acked, or_else, NoneLost}
-use Rattle.ledger.specs.Only.{concerns, opens}
+use Rattle.ledger.specs.Only.{concerns}
 use Rattle.ledger.proofs.DeedsLaws.{deed-is, Fits}
 use Rattle.ledger.proofs.OwnLaws.{other-enter, opened-page, ledger-keyed}
 use Rattle.ledger.proofs.AgreeLaws.{Agrees, Tied}

@@ -5,7 +5,7 @@ use Rattle.std.proofs.Math.Option.{Option, none, some, none-ne-some, some-inject
 use Rattle.octets.specs.BoolsLaws.{cases}
 use Rattle.packet.specs.declared.header.Kind.{Kind}
 use Rattle.packet.specs.declared.header.Kind.TheVariants.{Init, Chunk, Done, Read, Aborted, AckInit, AckChunk, AckDone, Nothing}
-use Rattle.machine.specs.Values.{Label, Key, key_of, same_key, repeats}
+use Rattle.machine.specs.Values.{Key, key_of, same_key, repeats}
 use Rattle.machine.specs.Packet.{Packet, asked, init_label}
 use Rattle.machine_laws.specs.Keys.{key-eq}
 use Rattle.ledger.specs.Ledger.{Page, Book, write, with_page, page_label, opened, init_in, piece_of, chunk_in, done_in, packet_in}

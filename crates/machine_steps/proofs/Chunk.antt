@@ -1,29 +1,26 @@
 -- Chunk: a piece that is put into its record leaves a receive store valid. Assumes nothing.
 use Rattle.std.specs.Prelude.{ℕ, suc, ◌+◌, ◌≤◌, max, ◌≡◌, refl, true, List, ◌++◌, length}
 use Rattle.std.proofs.Common.{arith, ap, ltb-true}
-use Rattle.std.proofs.Math.Option.{some}
 use Rattle.octets.specs.Octets.{capacity, same}
 use Rattle.octets.specs.BoolsLaws.{cases}
 use Rattle.octets.specs.CompareLaws.{same-eq}
-use Rattle.machine.specs.Limits.{top_of, most_of_source}
+use Rattle.machine.specs.Limits.{top_of}
 use Rattle.machine.specs.Codes.{role_receive, kind_arriving}
-use Rattle.machine.specs.Values.{Cell, Rec, Store, Key}
+use Rattle.machine.specs.Values.{Cell, Rec, Store}
 use Rattle.machine.specs.Chains.{first}
 use Rattle.machine.specs.Counting.{occurs}
 use Rattle.machine.specs.Sources.{cells_from, held_by}
 use Rattle.machine.specs.Sound.{rising, cell_fits}
-use Rattle.machine.specs.Valid.{AtMost, CellSized, RecSized, Fair, Valid}
+use Rattle.machine.specs.Valid.{AtMost, CellSized, RecSized, Fair}
 use Rattle.machine.specs.Find.{is_some}
 use Rattle.machine.specs.Pieces.{piece_at}
-use Rattle.machine.specs.Receive.{found, with_piece, cells_left, chunk_at}
+use Rattle.machine.specs.Receive.{with_piece, cells_left}
 use Rattle.machine.specs.Packet.{cells_needed, has_share}
 use Rattle.packet.specs.Frame.{largest_piece}
-use Rattle.machine_laws.specs.Fine.{Fine, fine-fits}
+use Rattle.machine_laws.specs.Fine.{Fine}
 use Rattle.machine_steps.proofs.Find.{is_none}
 use Rattle.machine_steps.proofs.Pieces.{rising-put, rising-wider, all-put, occurs-put-new, places-put-held, length-put, length-put-held}
 use Rattle.machine_steps.proofs.Counts.{in_cells, from_source, held-from, occurs-rest}
-use Rattle.machine_steps.proofs.Change.{change-valid}
-use Rattle.machine_steps.proofs.Held.{held-own, held-fine, held-sized}
 
 -- a piece at an index to top: its record is as fine as before
 pub piece-fine : (place index : ℕ) (bytes : List ℕ) (r : Rec) → index ≤ top_of r.label.total → Fine role_receive kind_arriving r

@@ -1,11 +1,10 @@
 -- Init: a record that starts, starts again or stays as it is leaves a receive store valid. Assumes nothing.
 use Rattle.machine_steps.specs.LabelFine.{LabelFine}
-use Rattle.std.specs.Prelude.{ℕ, ◌≤◌, ◌≡◌, refl, true, ◌||◌, length, ltb}
+use Rattle.std.specs.Prelude.{ℕ, ◌≡◌, refl, true, ◌||◌, length, ltb}
 use Rattle.std.proofs.Common.{arith, ltb-true}
 use Rattle.std.proofs.Math.Option.{Option, none, some}
 use Rattle.octets.specs.Octets.{capacity}
 use Rattle.octets.specs.BoolsLaws.{cases}
-use Rattle.machine.specs.Limits.{longest}
 use Rattle.machine.specs.Codes.{role_receive, kind_arriving}
 use Rattle.machine.specs.Values.{Label, Rec, Store, key_of, repeats}
 use Rattle.machine.specs.Chains.{first}

@@ -1,21 +1,9 @@
 -- Data cut into pieces lies in the first free cells, in their order. Assumes nothing.
-use Rattle.std.specs.Prelude.{ℕ, zero, suc, ◌+◌, ◌*◌, ◌-◌, ◌≤◌, ◌≡◌, refl, true, cond, ◌&&◌, List, [], ◌∷◌, map, length, take, drop, eqb, leb, ltb}
-use Rattle.std.proofs.Common.{arith, sym, ap, ◌∙◌, length-take, length-drop, take-append-drop, get_or-drop, eq-eqb, lt-ltb, leb-true, leb-false}
-use Rattle.octets.specs.Octets.{part, Bytes}
-use Rattle.octets.specs.BoolsLaws.{cases, both}
-use Rattle.octets.specs.Lists.{All}
-use Rattle.octets.specs.PartsLaws.{bytes-part}
-use Rattle.machine.specs.Limits.{cut_by, slots_of}
-use Rattle.machine.specs.Values.{Cell}
-use Rattle.machine.specs.Chains.{first}
-use Rattle.machine.specs.Counting.{occurs}
+use Rattle.std.specs.Prelude.{ℕ, zero, suc, ◌≤◌, ◌≡◌, refl, List, [], ◌∷◌, map, length, take, drop}
+use Rattle.std.proofs.Common.{arith, ap}
+use Rattle.machine.specs.Limits.{cut_by}
 use Rattle.machine.specs.Layout.{cell_place}
-use Rattle.machine.specs.Sound.{rising, sizes, is_cut}
-use Rattle.machine.specs.Valid.{AtMost}
-use Rattle.machine.specs.Pieces.{new_cell, joined, rest, cut_pieces}
-use Rattle.machine_laws.specs.Counting.{occurs-append}
-use Rattle.machine_steps.proofs.Pieces.{parts-rising}
-use Rattle.machine_steps.proofs.ByIndex.{length-joined}
+use Rattle.machine.specs.Pieces.{cut_pieces}
 
 -- its places are the first n
 pub places-cut : (n i : ℕ) (places bytes : List ℕ) → n ≤ length places → map cell_place (cut_pieces n i places bytes) ≡ take n places

@@ -1,21 +1,15 @@
 -- A leaving record that gets another state, timed-out mark or marks of its pieces is as it should be. Assumes nothing.
-use Rattle.std.specs.Prelude.{ℕ, ◌+◌, ◌≤◌, ◌≡◌, refl, true, List, [], ◌∷◌, map, leb}
-use Rattle.std.proofs.Common.{arith, ap, ◌∙◌, le-leb}
-use Rattle.std.proofs.Math.Option.{Option, none, some}
+use Rattle.std.specs.Prelude.{ℕ, ◌≤◌, ◌≡◌, true, List, map, leb}
+use Rattle.std.proofs.Common.{◌∙◌, le-leb}
 use Rattle.std.proofs.lemmas.List.{length-map}
 use Rattle.octets.specs.BoolsLaws.{both}
 use Rattle.octets.specs.ListsLaws.{all-to, all_map}
 use Rattle.machine.specs.Codes.{role_send, kind_leaving, state_aborted}
-use Rattle.machine.specs.Values.{Cell, Rec, Store, Key}
-use Rattle.machine.specs.Counting.{occurs}
+use Rattle.machine.specs.Values.{Cell, Rec}
 use Rattle.machine.specs.Sound.{cell_fits}
-use Rattle.machine.specs.Valid.{CellSized, RecSized, Valid}
-use Rattle.machine.specs.Receive.{found}
-use Rattle.machine.specs.Send.{change_at}
-use Rattle.machine_laws.specs.Fine.{Fine, fine-fits, sending-small}
-use Rattle.machine_steps.proofs.Change.{changed, change-valid}
-use Rattle.machine_steps.proofs.Held.{held-own, held-fine, held-sized}
-use Rattle.machine_steps.proofs.Marks.{Marks, places-map, rising-map, sizes-map, cut-map, marks-same}
+use Rattle.machine.specs.Valid.{CellSized, RecSized}
+use Rattle.machine_laws.specs.Fine.{Fine}
+use Rattle.machine_steps.proofs.Marks.{Marks, rising-map, sizes-map, cut-map}
 
 -- a record with another state, timed-out mark and chain of cells
 abbrev pub remarked : ℕ → ℕ → List Cell → Rec → Rec

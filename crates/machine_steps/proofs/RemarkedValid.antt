@@ -1,21 +1,17 @@
 -- A leaving record that gets another state, timed-out mark or marks of its pieces leaves a send store valid. Assumes nothing.
-use Rattle.std.specs.Prelude.{ℕ, ◌+◌, ◌≤◌, ◌≡◌, refl, true, List, [], ◌∷◌, map, leb}
-use Rattle.std.proofs.Common.{arith, ap, ◌∙◌, le-leb}
+use Rattle.std.specs.Prelude.{ℕ, ◌+◌, ◌≤◌, ◌≡◌, refl, List, [], ◌∷◌, map}
+use Rattle.std.proofs.Common.{arith, ap}
 use Rattle.std.proofs.Math.Option.{Option, none, some}
-use Rattle.std.proofs.lemmas.List.{length-map}
-use Rattle.octets.specs.BoolsLaws.{both}
-use Rattle.octets.specs.ListsLaws.{all-to, all_map}
 use Rattle.machine.specs.Codes.{role_send, kind_leaving, state_aborted}
 use Rattle.machine.specs.Values.{Cell, Rec, Store, Key}
 use Rattle.machine.specs.Counting.{occurs}
-use Rattle.machine.specs.Sound.{cell_fits}
-use Rattle.machine.specs.Valid.{CellSized, RecSized, Valid}
+use Rattle.machine.specs.Valid.{Valid}
 use Rattle.machine.specs.Receive.{found}
 use Rattle.machine.specs.Send.{change_at}
-use Rattle.machine_laws.specs.Fine.{Fine, fine-fits, sending-small}
+use Rattle.machine_laws.specs.Fine.{fine-fits, sending-small}
 use Rattle.machine_steps.proofs.Change.{changed, change-valid}
 use Rattle.machine_steps.proofs.Held.{held-own, held-fine, held-sized}
-use Rattle.machine_steps.proofs.Marks.{Marks, places-map, rising-map, sizes-map, cut-map, marks-same}
+use Rattle.machine_steps.proofs.Marks.{Marks, places-map, marks-same}
 use Rattle.machine_steps.proofs.Remarked.{remarked, remarked-fine, remarked-sized}
 
 module _ (k : Key) (r : Rec) (s : Store) (e : found k s.held ≡ some r) (v : Valid role_send s) where

@@ -1,5 +1,5 @@
 -- What the step of an init asks of the head that is announced. Assumes nothing.
-use Rattle.std.specs.Prelude.{ℕ, ◌≤◌}
+use Rattle.std.specs.Prelude.{◌≤◌}
 use Rattle.machine.specs.Limits.{longest}
 use Rattle.machine.specs.Values.{Label}
 use Rattle.machine.specs.Valid.{LabelSized}

@@ -1,5 +1,5 @@
 -- A piece of a held record is changed in its own cell: that row is written, and everything else stays. Assumes nothing.
-use Rattle.std.specs.Prelude.{ℕ, ◌+◌, ◌-◌, ◌≡◌, refl, List, [], ◌∷◌, ◌++◌, map, length}
+use Rattle.std.specs.Prelude.{ℕ, ◌≡◌, refl, List, [], ◌∷◌, ◌++◌, map, length}
 use Rattle.std.proofs.Common.{arith, sym, ap, ◌∙◌, subst, append_assoc}
 use Rattle.octets.specs.Octets.{be}
 use Rattle.octets.specs.Bools.{one}

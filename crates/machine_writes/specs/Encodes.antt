@@ -1,5 +1,5 @@
 -- The operations on the bytes of a sound store: what each writes is the encoding of the store after its step. Assumes nothing.
-use Rattle.std.specs.Prelude.{ℕ, ◌+◌, ◌≡◌, true}
+use Rattle.std.specs.Prelude.{ℕ, ◌≡◌, true}
 use Rattle.std.proofs.Math.Path.{refl, ap, subst}
 use Rattle.std.proofs.Common.{sym, ◌∙◌}
 use mathlib.Core.List.{List, [], ◌∷◌, ◌++◌, map}

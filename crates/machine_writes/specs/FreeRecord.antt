@@ -1,6 +1,6 @@
 -- A record's row becomes free, in front of the free chain. Cells stay, and so does the head but for its link to the first free record.
 -- Assumes nothing.
-use Rattle.std.specs.Prelude.{ℕ, ◌+◌, ◌-◌, ◌≤◌, ◌<◌, ◌≡◌, List, [], ◌∷◌, length, eqb}
+use Rattle.std.specs.Prelude.{ℕ, ◌+◌, ◌≤◌, ◌<◌, ◌≡◌, List, [], ◌∷◌, length, eqb}
 use Rattle.std.proofs.Common.{arith, sym, ap, ◌∙◌}
 use Rattle.octets.specs.Octets.{part, put}
 use Rattle.octets.specs.Bools.{one}

@@ -1,6 +1,6 @@
 -- A chain that starts at a byte of the head: the link behind a part of it is written, at that byte or in a row. Rows elsewhere and the rest of the head
 -- stay; the head's byte is then the chain's first place in either case. Said over where the rows stand and how long they are. Assumes nothing.
-use Rattle.std.specs.Prelude.{ℕ, suc, ◌+◌, ◌-◌, ◌≤◌, ◌<◌, ◌≡◌, take, drop}
+use Rattle.std.specs.Prelude.{ℕ, suc, ◌+◌, ◌≤◌, ◌<◌, ◌≡◌, take, drop}
 use Rattle.std.proofs.Common.{zero-add, arith, ◌∙◌}
 use Rattle.std.proofs.Math.Path.{sym, ap}
 use mathlib.Core.List.{List, [], ◌∷◌, ◌++◌, map}

@@ -1,6 +1,6 @@
 -- Links in bytes: where the link to what follows a part of a chain stands, what is read there, and what a write there changes. One set of laws for
 -- chains of records and of cells: a row starts with its link. Assumes nothing.
-use Rattle.std.specs.Prelude.{ℕ, suc, ◌+◌, ◌-◌, ◌≤◌, ◌<◌, ◌≡◌, get_or}
+use Rattle.std.specs.Prelude.{ℕ, suc, ◌+◌, ◌≤◌, ◌<◌, ◌≡◌, get_or}
 use Rattle.std.proofs.Common.{add-zero, arith, ◌∙◌, subst}
 use Rattle.std.proofs.Math.Path.{refl, sym, ap}
 use mathlib.Core.List.{List, [], ◌∷◌, ◌++◌, map}

@@ -1,5 +1,5 @@
 -- Laws of `zeros` and `same`: what the two tests tell, and how they are built up byte by byte. Assumes nothing.
-use Rattle.std.specs.Prelude.{ℕ, zero, suc, ◌+◌, ◌≡◌, refl, true, false, ◌&&◌, List, [], ◌∷◌, ◌++◌, length, replicate, eqb}
+use Rattle.std.specs.Prelude.{ℕ, zero, suc, ◌≡◌, refl, true, false, ◌&&◌, List, [], ◌∷◌, ◌++◌, length, replicate, eqb}
 use Rattle.std.proofs.Common.{ap, eqb-true, eq-eqb}
 use Rattle.octets.specs.BoolsLaws.{cases, clash, split}
 use Rattle.octets.specs.Octets.{zeros, same}

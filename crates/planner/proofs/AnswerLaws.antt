@@ -1,14 +1,14 @@
 -- What the call answers: "2 for a buffer under 60 bytes", then 31, and "up to 32,500 bytes 31 comes exactly when there is none". "Refusals change
 -- nothing". Assumes nothing.
-use Rattle.std.specs.Prelude.{ℕ, ◌≤◌, ◌<◌, ◌≡◌, refl, true, false, cond, List, length, eqb}
-use borrow.Author.Tests.{eqb-true, le-leb, lt-leb}
+use Rattle.std.specs.Prelude.{ℕ, ◌≤◌, ◌<◌, ◌≡◌, cond, List, length, eqb}
+use borrow.Author.Tests.{le-leb, lt-leb}
 use Rattle.octets.specs.BoolsLaws.{cases}
 use Rattle.answer.specs.Answers.{bare}
 use Rattle.machine.specs.Limits.{longest}
 use Rattle.machine.specs.Codes.{short_output, no_plan}
 use Rattle.machine.specs.Find.{is_some}
 use Rattle.machine.specs.Refusals.{refusal}
-use Rattle.planner.specs.Plan.{plan_for, PlanOutcome, plan_room, plan_row, plan_of}
+use Rattle.planner.specs.Plan.{plan_for, plan_room, plan_row, plan_of}
 
 module _ (total k : ℕ) (out : List ℕ) where
   pub plan-short : length out < plan_room → plan_of total k out ≡ record { answer = bare short_output; out = out }

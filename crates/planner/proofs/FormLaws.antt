@@ -1,6 +1,6 @@
 -- The plan in closed form: 1,364 as often as it fits, the rest, zeros; exactly for ceil(length / 1,300) ≤ number ≤ the smaller of 30 and top + 1. Here
 -- against the test `keeps`; that this is what the calls do stands in PlanLaws. Assumes nothing.
-use Rattle.std.specs.Prelude.{ℕ, zero, suc, ◌+◌, ◌*◌, ◌-◌, ◌≤◌, min, ◌≡◌, refl, Bool, true, false, ◌&&◌, ◌||◌, List, [], ◌∷◌, length, eqb, leb, ltb}
+use Rattle.std.specs.Prelude.{ℕ, zero, suc, ◌+◌, ◌*◌, ◌-◌, ◌≤◌, min, ◌≡◌, refl, Bool, true, false, ◌&&◌, ◌||◌, List, [], ◌∷◌, length, eqb, leb}
 use Rattle.std.proofs.Common.{arith, ap, eqb-true, eq-eqb, leb-true, leb-false, le-leb, le-ltb}
 use Rattle.octets.specs.BoolsLaws.{cases, clash, split, both}
 use Rattle.packet.specs.Frame.{largest_piece}

@@ -3,10 +3,10 @@
 -- whatever the pieces hold. Assumes nothing.
 use Rattle.std.specs.Prelude.{ℕ, ◌≤◌, ◌<◌, ◌≡◌, refl, true, false, cond, List, [], ◌∷◌, map, length, replicate}
 use Rattle.std.proofs.Common.{arith, sym, ap, ◌∙◌}
-use Rattle.std.proofs.Math.Option.{Option, none, some, none-ne-some, some-injective}
+use Rattle.std.proofs.Math.Option.{none, some, none-ne-some, some-injective}
 use Rattle.std.proofs.lemmas.List.{length-map, length-replicate}
 use Rattle.octets.specs.Octets.{capacity, Bytes}
-use Rattle.octets.specs.BoolsLaws.{cases, clash}
+use Rattle.octets.specs.BoolsLaws.{cases}
 use Rattle.octets.specs.Lists.{All}
 use Rattle.octets.specs.ListsLaws.{all-to}
 use Rattle.topic.specs.Book.{starts, well_formed, distinct, admits, admitted_by}

@@ -1,6 +1,6 @@
 -- Values of the plan, on both sides of each bound. Assumes nothing.
 use Rattle.std.proofs.Common.{arith}
-use Rattle.std.specs.Prelude.{◌≡◌, refl, [], ◌∷◌}
+use Rattle.std.specs.Prelude.{◌≡◌, [], ◌∷◌}
 use Rattle.std.proofs.Math.Option.{none, some}
 use Rattle.planner.specs.Plan.{plan_for}
 use Rattle.planner.specs.Form.{planned}

@@ -1,7 +1,7 @@
 -- The plan in closed form, as the code makes it; that it is the plan stands in FormLaws. Assumes nothing.
 use Rattle.std.specs.Prelude.{ℕ, zero, suc, ◌-◌, min, Bool, ◌&&◌, List, [], ◌∷◌, leb}
 use Rattle.packet.specs.Frame.{largest_piece}
-use Rattle.machine.specs.Limits.{longest, least_piece, most_cells, most_of_source, slots_of, top_of}
+use Rattle.machine.specs.Limits.{most_of_source, slots_of, top_of}
 
 -- k sizes for n bytes: each as large as it can be
 unfoldable pub planned : ℕ → ℕ → List ℕ

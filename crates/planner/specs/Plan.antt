@@ -1,7 +1,7 @@
 -- C-21: sizes for a length and a number of pieces, by what is asked of them: "sizes, 0 to 1,364, that a fresh receiver of 45 cells, topic open and source
 -- key known, would keep from one source at indices from 0 and then finish with that number as count", the greatest of them. Keeping and finishing are the
 -- receiver's own calls.
-use Rattle.std.specs.Prelude.{ℕ, zero, suc, ◌*◌, Bool, false, true, cond, ◌&&◌, List, [], ◌∷◌, ◌++◌, map, length, replicate, eqb, leb}
+use Rattle.std.specs.Prelude.{ℕ, zero, suc, Bool, false, cond, ◌&&◌, List, [], ◌∷◌, ◌++◌, map, length, replicate, eqb, leb}
 use Rattle.std.proofs.Math.Option.{Option, none, some}
 use Rattle.octets.specs.Octets.{be, put}
 use Rattle.answer.specs.declared.Answer.{Answer}

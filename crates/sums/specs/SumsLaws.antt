@@ -1,10 +1,10 @@
 -- "Refusals change nothing": what the two calls leave where their number is not 0. Assumes nothing.
-use Rattle.std.specs.Prelude.{◌≡◌, Bool, true, false, ◌&&◌, List, ℕ, length, eqb, leb}
+use Rattle.std.specs.Prelude.{◌≡◌, Bool, ◌&&◌, List, ℕ, length, eqb, leb}
 use Rattle.octets.specs.BoolsLaws.{cases}
 use Rattle.answer.specs.Answers.{bare}
 use Rattle.blake3.specs.Modes.{key_len, keyed_hash, derived_key}
 use Rattle.machine.specs.Codes.{bad_lengths}
-use Rattle.sums.specs.Sums.{longest_sum, SumOutcome, filled, keyed_hash_of, derive_key_of}
+use Rattle.sums.specs.Sums.{longest_sum, filled, keyed_hash_of, derive_key_of}
 
 refused : (right : Bool) (sum out : List ℕ) → ((filled right sum out).answer.number ≡ 0 → ⊥)
     → filled right sum out ≡ record { answer = bare bad_lengths; out = out }

@@ -1,4 +1,4 @@
-use Rattle.std.proofs.Common.{◌-◌, ◌*◌, refl, arith, length-set, rules}
+use Rattle.std.proofs.Common.{◌*◌, refl, arith, length-set, rules}
 use Rattle.blake3.specs.Tree.{word_at}
 use Rattle.blake3.specs.Modes.{key_words}
 use Rattle.blake3.proofs.Laws.{fill, filled}

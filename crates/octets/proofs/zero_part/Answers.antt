@@ -1,4 +1,3 @@
-use Prim.Native.Nat.{◌-◌}
 use native.Mathlib.Omega.{arith}
 use Rattle.octets.proofs.Loops.{zeros-none, zeros-more, zeros-all}
 use Rattle.octets.proofs.zero_part.Goals as goal

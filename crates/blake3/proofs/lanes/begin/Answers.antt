@@ -1,4 +1,4 @@
-use Rattle.std.proofs.Common.{◌≡◌, ℕ, ◌+◌, ◌-◌, ◌<◌, List, length, drop, refl, ap, ◌∙◌, arith, rules}
+use Rattle.std.proofs.Common.{◌≡◌, ℕ, ◌+◌, ◌<◌, List, length, drop, refl, ap, ◌∙◌, arith, rules}
 use Rattle.blake3.specs.Words.{word}
 use Rattle.blake3.specs.Compression.{start}
 use Rattle.blake3.specs.Tree.{block_at}

@@ -1,4 +1,4 @@
-use Rattle.std.proofs.Common.{◌≡◌, ◌+◌, ◌-◌, refl, ap, ◌∙◌, arith, rules}
+use Rattle.std.proofs.Common.{◌≡◌, ◌+◌, refl, ap, ◌∙◌, arith, rules}
 use Rattle.blake3.specs.Tree.{before}
 use Rattle.blake3.specs.FourChunks.{from}
 use Rattle.blake3.proofs.Laws.{next}

@@ -1,4 +1,4 @@
-use Rattle.std.proofs.Common.{◌-◌, ◌<◌, refl, ap, ◌∙◌, arith, rules}
+use Rattle.std.proofs.Common.{◌<◌, refl, ap, ◌∙◌, arith, rules}
 use Rattle.blake3.specs.Words.{first}
 use Rattle.blake3.specs.Compression.{finish}
 use Rattle.blake3.specs.Lanes.{lane}

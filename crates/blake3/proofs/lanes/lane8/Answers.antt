@@ -1,4 +1,4 @@
-use Rattle.std.proofs.Common.{◌-◌, refl, arith, length-set, rules}
+use Rattle.std.proofs.Common.{refl, arith, length-set, rules}
 use Rattle.blake3.specs.Lanes.{in_lane, lane}
 use Rattle.blake3.proofs.Laws.{fill, filled}
 use Rattle.blake3.proofs.lanes.lane8.Goals as goal

@@ -1,4 +1,4 @@
-use Rattle.std.proofs.Common.{ℕ, ◌-◌, ◌<◌, List, ap, ◌∙◌, arith, rules}
+use Rattle.std.proofs.Common.{ℕ, ◌<◌, List, ap, ◌∙◌, arith, rules}
 use Rattle.blake3.specs.Rounds.{round, permute}
 use Rattle.blake3.specs.Lanes.{lane}
 use Rattle.blake3.proofs.LaneLaws.{none, more, all}

@@ -1,4 +1,4 @@
-use Rattle.std.proofs.Common.{◌≡◌, ℕ, ◌-◌, refl, ap, ◌∙◌, arith, rules}
+use Rattle.std.proofs.Common.{◌≡◌, ℕ, refl, ap, ◌∙◌, arith, rules}
 use Rattle.blake3.specs.Lanes.{put_lane}
 use Rattle.blake3.proofs.LaneLaws.{put_next}
 use Rattle.blake3.proofs.lanes.set8.Goals as goal

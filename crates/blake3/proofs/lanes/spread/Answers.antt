@@ -1,4 +1,4 @@
-use Rattle.std.proofs.Common.{◌-◌, refl, arith, rules}
+use Rattle.std.proofs.Common.{refl, arith, rules}
 use Rattle.blake3.proofs.LaneLaws.{none, more, all}
 use Rattle.blake3.proofs.lanes.spread.Goals as goal
 

@@ -1,4 +1,4 @@
-use Rattle.std.proofs.Common.{◌-◌, refl, arith, length-set, rules}
+use Rattle.std.proofs.Common.{refl, arith, length-set, rules}
 use Rattle.blake3.specs.Tree.{byte_at, bytes}
 use Rattle.blake3.proofs.Laws.{fill, filled}
 use Rattle.blake3.proofs.output.half.Goals as goal

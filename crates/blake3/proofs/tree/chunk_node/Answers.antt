@@ -1,4 +1,4 @@
-use Rattle.std.proofs.Common.{◌-◌, refl, ◌∙◌, arith, rules}
+use Rattle.std.proofs.Common.{refl, ◌∙◌, arith, rules}
 use Rattle.blake3.specs.Tree.{before}
 use Rattle.blake3.proofs.Laws.{next, ended}
 use Rattle.blake3.proofs.tree.chunk_node.Goals as goal

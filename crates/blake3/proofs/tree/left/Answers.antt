@@ -1,4 +1,4 @@
-use Rattle.std.proofs.Common.{◌≡◌, ℕ, suc, ◌+◌, ◌-◌, ◌*◌, ◌^◌, refl, pow-suc, arith, rules}
+use Rattle.std.proofs.Common.{◌≡◌, ℕ, suc, ◌+◌, ◌*◌, ◌^◌, refl, pow-suc, arith, rules}
 use Rattle.blake3.proofs.tree.left.Goals as goal
 
 twice : (p k : ℕ) → p ≡ 1024 * 2 ^ k → p + p ≡ 1024 * 2 ^ suc k

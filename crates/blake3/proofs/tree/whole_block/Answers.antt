@@ -1,4 +1,4 @@
-use Rattle.std.proofs.Common.{◌-◌, refl, arith, length-set, rules}
+use Rattle.std.proofs.Common.{refl, arith, length-set, rules}
 use Rattle.blake3.specs.Tree.{block_at}
 use Rattle.blake3.proofs.Laws.{word_of, fill, filled}
 use Rattle.blake3.proofs.tree.whole_block.Goals as goal

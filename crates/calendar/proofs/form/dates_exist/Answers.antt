@@ -1,7 +1,6 @@
-use Prim.Native.Nat.{◌-◌}
 use native.Mathlib.Omega.{arith}
 use mathlib.Core.Path.{sym, ap, ◌∙◌}
-use Rattle.calendar.specs.Calendar.{closed_date, listable}
+use Rattle.calendar.specs.Calendar.{listable}
 use Rattle.calendar.proofs.Every.{passed_none, passed-more, passed-all, failed}
 use Rattle.calendar.proofs.form.dates_exist.Invariants.{test}
 use Rattle.calendar.proofs.form.dates_exist.Goals as goal

@@ -1,8 +1,7 @@
-use Prim.Native.Nat.{◌-◌}
 use native.Mathlib.Omega.{arith}
 use mathlib.Core.Path.{sym, ap, ◌∙◌}
 use Rattle.calendar.specs.Days.{week_days}
-use Rattle.calendar.specs.Calendar.{window_of, fits}
+use Rattle.calendar.specs.Calendar.{fits}
 use Rattle.calendar.proofs.Every.{passed_none, passed-more, passed-all, failed}
 use Rattle.calendar.proofs.form.windows_fit.Invariants.{test}
 use Rattle.calendar.proofs.form.windows_fit.Goals as goal

@@ -1,6 +1,6 @@
 -- `cutter::lines::put_cuts` meets its contract: nothing is left; the front grows where some is; the lines behind it; those of a larger size.
 -- Assumes nothing.
-use Rattle.std.proofs.Common.{◌≤◌, arith, refl, sym}
+use Rattle.std.proofs.Common.{arith, refl, sym}
 use lib.Seq.{length-take-le}
 use Rattle.cutter.proofs.FrontsLaws.{size-range, wrote_as, growing-none, room-line, front-short, longer-within}
 use Rattle.cutter.proofs.FrontsLaws.{room-first, room-second, wrote-last, wrote-both}

@@ -5,7 +5,7 @@ use Rattle.machine.specs.Codes.{role_receive}
 use Rattle.records.specs.RefuseLaws.{clear, refused, done}
 use Rattle.records.specs.SearchLaws.{Search, ended, here, own_key, none-met, asks-met, number_is}
 use Rattle.inbox.proofs.aborted.abort.Goals as goal
-use Rattle.inbox.proofs.aborted.abort.Goals.{After-find_held-link, Start}
+use Rattle.inbox.proofs.aborted.abort.Goals.{After-find_held-link}
 
 searched : (c : After-find_held-link) → Search role_receive c.args.recv.now c.args.id.now c.find_held-link.result
 searched c = record { bytes = λ i. (c.slice_known-1.given i).fits; sound = c.requires; is = c.find_held-link.ensures.0 }

@@ -19,7 +19,7 @@ use Rattle.records.specs.HeldAt.{rec_in}
 use Rattle.records.specs.MetLaws.{here-reached}
 use Rattle.inbox.proofs.chunk.cell_refusal.Goals as goal
 use Rattle.inbox.proofs.chunk.cell_refusal.Lts.View.{up-After-has_piece, up-After-of_source}
-use Rattle.inbox.proofs.chunk.cell_refusal.Goals.{After-has_piece, After-is_free_cell, After-of_source, Else-has_piece, Else-of_source-ge-MOST_OF_SOURCE, Start}
+use Rattle.inbox.proofs.chunk.cell_refusal.Goals.{After-has_piece, After-is_free_cell, After-of_source, Else-has_piece, Else-of_source-ge-MOST_OF_SOURCE}
 
 abbrev store : After-has_piece → Store
 store c = decode c.args.recv.now

@@ -6,7 +6,7 @@ use Rattle.machine_steps.proofs.Refusals.{refusal-clear}
 use Rattle.records.specs.RefuseLaws.{refused, done}
 use Rattle.records.specs.SearchLaws.{Search, ended, number_is, passed, held-here, held-key}
 use Rattle.inbox.proofs.done.done.Goals as goal
-use Rattle.inbox.proofs.done.done.Goals.{After-find_held-link, Start}
+use Rattle.inbox.proofs.done.done.Goals.{After-find_held-link}
 
 searched : (c : After-find_held-link) → Search role_receive c.args.recv.now c.args.id.now c.find_held-link.result
 searched c = record { bytes = λ i. (c.slice_known-1.given i).fits; sound = c.requires; is = c.find_held-link.ensures.0 }

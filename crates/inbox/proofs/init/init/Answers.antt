@@ -25,7 +25,7 @@ use Rattle.records.specs.SearchLaws.{Search, met, here, own_key}
 use borrow.Author.Rules.{rules}
 use Rattle.inbox.proofs.init.init.Goals as goal
 use Rattle.inbox.proofs.init.init.Lts.View.{up-After-refusal-number, up-Else-recv-link-eq0}
-use Rattle.inbox.proofs.init.init.Goals.{After-find_held-link, After-refusal-number, After-rules_refusal-refused, After-says_again, Else-number-ne-DONE, Else-recv-link-eq0, Else-refused-ne-DONE, Start, Then-recv-link-eq0}
+use Rattle.inbox.proofs.init.init.Goals.{After-refusal-number, After-says_again, Else-number-ne-DONE, Else-recv-link-eq0, Start, Then-recv-link-eq0}
 
 -- the row of the book, and what both rows answer
 abbrev book : Start → Refusals

@@ -3,7 +3,6 @@ use native.Mathlib.Omega.{arith}
 use mathlib.Core.Path.{◌∙◌}
 use Rattle.inbox.proofs.Shares.{reached, sum-small, sum-out, sum-end, sum_more}
 use Rattle.inbox.proofs.share.of_chain.Goals as goal
-use Rattle.inbox.proofs.share.of_chain.Goals.{After-small-place, At-loop-n, Start}
 
 pub loop-n-init : goal.loop-n-init
 loop-n-init c = record { turns = omega arith; within = c.requires.1; small = omega arith; gives = omega arith }

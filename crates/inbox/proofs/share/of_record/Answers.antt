@@ -2,7 +2,6 @@
 use native.Mathlib.Omega.{arith}
 use Rattle.inbox.proofs.Shares.{first-in, from-none, from_some}
 use Rattle.inbox.proofs.share.of_record.Goals as goal
-use Rattle.inbox.proofs.share.of_record.Goals.{After-equal, Start}
 
 pub returns-then-not-equal : goal.returns-then-not-equal
 returns-then-not-equal c =

@@ -16,7 +16,7 @@ use Rattle.machine_writes.specs.InRange.{links}
 use Rattle.records.specs.HeldAt.{place_at, row_in, Reached}
 use Rattle.inbox.specs.OldestLaws.{oldest-placed, oldest-first, oldest-pieces}
 use Rattle.inbox.proofs.take.put_message.Goals as goal
-use Rattle.inbox.proofs.take.put_message.Goals.{After-copy_in-arg-1, Start}
+use Rattle.inbox.proofs.take.put_message.Goals.{After-copy_in-arg-1}
 
 -- what is put at the of all that stands from a on is put at a
 tail-put : (m v : List ℕ) (a n : ℕ) → n ≡ length m - a → take a m ++ (put (take n (drop a m)) 0 v ++ drop n (drop a m)) ≡ put m a v

@@ -7,7 +7,7 @@ use Rattle.machine.specs.Layout.{whole_at, rec_of}
 use Rattle.records.specs.HeldAt.{Reached}
 use Rattle.inbox.specs.OldestLaws.{oldest-placed, oldest-head}
 use Rattle.inbox.proofs.take.put_read.Goals as goal
-use Rattle.inbox.proofs.take.put_read.Goals.{After-put_header-arg-1, Start}
+use Rattle.inbox.proofs.take.put_read.Goals.{After-put_header-arg-1}
 
 bytes : (c : After-put_header-arg-1) → Bytes c.args.recv.now
 bytes c = λ i. (c.type_inv.recv i).fits

@@ -15,7 +15,7 @@ use Rattle.machine.specs.Send.{init_out}
 use Rattle.machine.specs.Push.{Push, push_label, push_tests, push_row, push_of}
 use Rattle.outbox.specs.Pushing.{pushes, pushed_into}
 use Rattle.message.proofs.send.push.Goals as goal
-use Rattle.message.proofs.send.push.Goals.{After-sound, Else-not-sound, Start}
+use Rattle.message.proofs.send.push.Goals.{Else-not-sound, Start}
 
 -- the store is sound
 abbrev begun : Else-not-sound → Start

@@ -3,7 +3,6 @@ use native.Mathlib.Omega.{arith}
 use Rattle.message.proofs.Steps.{silent, least, most, replies}
 use borrow.Author.Rules.{rules}
 use Rattle.message.proofs.step.reply.Goals as goal
-use Rattle.message.proofs.step.reply.Goals.{Else-keeps-eq0, Start}
 
 pub returns-then-keeps-eq0 : goal.returns-then-keeps-eq0
 returns-then-keeps-eq0 c = let s = c in silent s.requires.0 _ _ _ _ c.if-keeps-eq0.true

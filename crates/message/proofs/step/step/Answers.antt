@@ -21,7 +21,7 @@ use Rattle.message.proofs.Steps.{Stores, receives, sends}
 use borrow.Author.Rules.{rules}
 use Rattle.message.proofs.step.step.Goals as goal
 use Rattle.message.proofs.step.step.Lts.View.{up-After-id-id}
-use Rattle.message.proofs.step.step.Goals.{After-id-id, After-labelled-label, After-length, In-Chunk, In-Done, Start}
+use Rattle.message.proofs.step.step.Goals.{After-id-id, After-labelled-label, In-Chunk, In-Done, Start}
 
 abbrev P : After-id-id → Packet
 P c = let a = c.args in arrival a.frame.now a.route.from a.route.to a.rules.now a.known

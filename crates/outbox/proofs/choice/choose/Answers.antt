@@ -6,7 +6,7 @@ use Rattle.octets.specs.Octets.{capacity}
 use Rattle.pieces.specs.InPlace.{CellIn}
 use Rattle.outbox.proofs.Choosing.{choosing-start, choosing-end, choosing-out, choosing-cell, choosing-more, ranks-long, places-long}
 use Rattle.outbox.proofs.choice.choose.Goals as goal
-use Rattle.outbox.proofs.choice.choose.Goals.{After-put_in-in-loop-n, After-rank-rank, At-loop-n, Else-place-eq0, Start}
+use Rattle.outbox.proofs.choice.choose.Goals.{Else-place-eq0}
 
 cell : (c : Else-place-eq0) → CellIn c.args.send.now c.loop-n.place
 cell c = choosing-cell c.loop-n.invariant c.if-place-eq0.false

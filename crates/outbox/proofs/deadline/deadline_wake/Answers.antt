@@ -8,7 +8,7 @@ use Rattle.outbox.specs.HereLaws.{here, found_here}
 use Rattle.outbox.specs.PartlyLaws.{change-is}
 use Rattle.outbox.specs.WokenLaws.{nothing}
 use Rattle.outbox.proofs.deadline.deadline_wake.Goals as goal
-use Rattle.outbox.proofs.deadline.deadline_wake.Goals.{After-is_late, After-slice_known-1}
+use Rattle.outbox.proofs.deadline.deadline_wake.Goals.{After-slice_known-1}
 
 found : (c : After-slice_known-1) → Here c.args.send.now c.args.link
 found c = here (λ i. (c.type_inv.send i).fits) c.requires.0

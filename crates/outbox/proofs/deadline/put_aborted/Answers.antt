@@ -5,7 +5,6 @@ use Rattle.machine.specs.Layout.{rec_of}
 use Rattle.outbox.specs.WokenLaws.{nothing}
 use Rattle.outbox.proofs.Packets.{aborted-long}
 use Rattle.outbox.proofs.deadline.put_aborted.Goals as goal
-use Rattle.outbox.proofs.deadline.put_aborted.Goals.{After-source, Start}
 
 pub put_header-requires : goal.put_header-requires
 unfolding rec_of

@@ -5,7 +5,6 @@ use Rattle.machine.specs.Layout.{rec_of}
 use Rattle.outbox.proofs.Packets.{done-long}
 use borrow.Author.Rules.{rules}
 use Rattle.outbox.proofs.done.put_done.Goals as goal
-use Rattle.outbox.proofs.done.put_done.Goals.{After-source, Start}
 
 pub put_done-requires : goal.put_done-requires
 unfolding rec_of

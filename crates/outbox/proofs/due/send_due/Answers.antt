@@ -8,7 +8,7 @@ use Rattle.machine.specs.Chains.{first}
 use Rattle.machine.specs.Layout.{cell_place}
 use Rattle.outbox.proofs.Going.{going_start, going-place, going-turn, going_more, going_done, going-out}
 use Rattle.outbox.proofs.due.send_due.Goals as goal
-use Rattle.outbox.proofs.due.send_due.Goals.{At-loop-n, In-loop-n}
+use Rattle.outbox.proofs.due.send_due.Goals.{In-loop-n}
 
 -- the place that is read is that of the next piece
 place_is : (c : In-loop-n) → let l = c in

@@ -6,7 +6,7 @@ use lib.ListN.{length}
 use Rattle.machine.specs.Layout.{rec_of}
 use Rattle.outbox.proofs.Packets.{init-long}
 use Rattle.outbox.proofs.init.put_init.Goals as goal
-use Rattle.outbox.proofs.init.put_init.Goals.{After-topic-topic, After-total, Start}
+use Rattle.outbox.proofs.init.put_init.Goals.{After-topic-topic}
 
 -- the topic that is read has at most 255 bytes
 short : (c : After-topic-topic) → length c.topic-topic.result.now ≤ 255

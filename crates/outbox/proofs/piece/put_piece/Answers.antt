@@ -12,7 +12,7 @@ use Rattle.pieces.specs.ReadLaws.{cell_in, cell-byte, size_of, piece_bytes, piec
 use Rattle.outbox.specs.Sending.{chunk_of}
 use Rattle.outbox.specs.EntriesLaws.{chunk-length}
 use Rattle.outbox.proofs.piece.put_piece.Goals as goal
-use Rattle.outbox.proofs.piece.put_piece.Goals.{After-cell_at-row, After-get16-size, Start}
+use Rattle.outbox.proofs.piece.put_piece.Goals.{After-get16-size}
 
 -- the piece of the cell k, whose row starts at `row`, has n bytes and is piece i
 record Piece (b : List ℕ) (k row n i : ℕ) : Type 0 where

@@ -17,7 +17,7 @@ use Rattle.machine.specs.Layout.{stamp_at, number_width, cell_off, cell_of, read
 use Rattle.machine.specs.Choice.{is_started, is_due}
 use Rattle.pieces.specs.ReadLaws.{piece-state}
 use Rattle.outbox.proofs.piece.rank.Goals as goal
-use Rattle.outbox.proofs.piece.rank.Goals.{After-cell_at-row, After-passed, Start}
+use Rattle.outbox.proofs.piece.rank.Goals.{After-passed}
 
 stamp-is : (b : List ℕ) (k : ℕ) → num 8 (part b (cell_off k + 4) 8) ≡ (read_cell b k).stamp
 unfolding cell_of

@@ -3,7 +3,7 @@ use Rattle.octets.specs.Octets.{Bytes}
 use Rattle.records.specs.OpenedLaws.{fine-fields}
 use Rattle.outbox.specs.PushedLaws.{cut-openable, push-opened}
 use Rattle.outbox.proofs.push.hold.Goals as goal
-use Rattle.outbox.proofs.push.hold.Goals.{After-cut, Start}
+use Rattle.outbox.proofs.push.hold.Goals.{After-cut}
 
 store : (c : After-cut) → Bytes c.args.send.now
 store c i = (c.slice_known-1.given i).fits

@@ -21,7 +21,7 @@ use Rattle.machine_steps.proofs.Refusals.{Clear, refusal-clear}
 use Rattle.records.specs.Opening.{new_label}
 use Rattle.outbox.specs.Pushing.{pushes}
 use Rattle.outbox.proofs.push.push.Goals as goal
-use Rattle.outbox.proofs.push.push.Goals.{After-refusal-number, Else-number-ne-DONE, Start}
+use Rattle.outbox.proofs.push.push.Goals.{Else-number-ne-DONE, Start}
 
 -- its tests, and what the row answers
 abbrev tests : Start → Refusals

@@ -7,7 +7,7 @@ use Rattle.octets.specs.WrittenLaws.{wrote, then}
 use Rattle.machine.specs.Layout.{rec_of}
 use Rattle.machine.specs.Report.{reported}
 use Rattle.outbox.proofs.report.put_report.Goals as goal
-use Rattle.outbox.proofs.report.put_report.Goals.{After-created, After-destination, After-end, Start}
+use Rattle.outbox.proofs.report.put_report.Goals.{After-destination}
 
 long : (c : After-destination) → length c.destination.result.now ≡ 16
 unfolding rec_of

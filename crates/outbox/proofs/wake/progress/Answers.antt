@@ -2,7 +2,6 @@
 use mathlib.Core.Path.{refl, sym, ◌∙◌}
 use Rattle.outbox.specs.WokenLaws.{alike, progress-done, progress-due}
 use Rattle.outbox.proofs.wake.progress.Goals as goal
-use Rattle.outbox.proofs.wake.progress.Goals.{After-all_acked, Start}
 
 pub returns-then-all_acked : goal.returns-then-all_acked
 returns-then-all_acked c =

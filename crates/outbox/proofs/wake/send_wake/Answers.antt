@@ -3,7 +3,7 @@ use Rattle.outbox.specs.Leaves.{Here}
 use Rattle.outbox.specs.HereLaws.{here}
 use Rattle.outbox.specs.WokenLaws.{woke-late, woke-init, woke-progress, woke-settled}
 use Rattle.outbox.proofs.wake.send_wake.Goals as goal
-use Rattle.outbox.proofs.wake.send_wake.Goals.{After-slice_known-1, After-state-state, After-timed_out, Else-timed_out-eq1}
+use Rattle.outbox.proofs.wake.send_wake.Goals.{After-slice_known-1}
 
 found : (c : After-slice_known-1) → Here c.args.send.now c.args.link
 found c = here (λ i. (c.type_inv.send i).fits) c.requires.0

@@ -15,7 +15,7 @@ use Rattle.records.specs.SearchLaws.{Search, ended, here, own_key, none-met, ask
 use Rattle.outbox.specs.HereLaws as leaves
 use Rattle.outbox.proofs.wake.wake.Goals as goal
 use Rattle.outbox.proofs.wake.wake.Lts.View.{up-Else-not-is_dated, up-Else-not-is_kind, up-Else-run-room}
-use Rattle.outbox.proofs.wake.wake.Goals.{After-find_held-link, After-slice_known-1, Else-not-is_dated, Else-not-is_kind, Else-run-room, Start}
+use Rattle.outbox.proofs.wake.wake.Goals.{After-find_held-link, Else-not-is_dated, Else-not-is_kind, Else-run-room, Start}
 
 abbrev woken : Start → Wake
 woken s = let a = s.args in waking a.kind a.id.now a.clock a.calendar.now a.unix_ms

@@ -10,7 +10,7 @@ use Rattle.machine_laws.specs.SoundValid.{sound-valid}
 use Rattle.outbox.specs.HereLaws.{found_here}
 use Rattle.outbox.specs.WokenLaws.{nothing}
 use Rattle.outbox.proofs.wake.wake_record.Goals as goal
-use Rattle.outbox.proofs.wake.wake_record.Goals.{Else-kind-ne-SEND, Start, Then-kind-ne-SEND}
+use Rattle.outbox.proofs.wake.wake_record.Goals.{Else-kind-ne-SEND}
 
 -- no send wake
 pub deadline_wake-requires : goal.deadline_wake-requires

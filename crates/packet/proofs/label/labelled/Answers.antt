@@ -3,7 +3,7 @@ use mathlib.Core.Path.{◌≡◌, sym, subst}
 use Rattle.packet.specs.declared.label.Label.{Label}
 use Rattle.packet.specs.Named.{Named}
 use Rattle.packet.proofs.label.labelled.Goals as goal
-use Rattle.packet.proofs.label.labelled.Goals.{After-address_of-d, Start}
+use Rattle.packet.proofs.label.labelled.Goals.{After-address_of-d}
 
 abbrev given : After-address_of-d → Label
 given c =

@@ -7,7 +7,7 @@ use Rattle.packet.specs.Room.{Room}
 use Rattle.packet.specs.LengthsLaws.{length-init}
 use borrow.Author.Rules.{rules}
 use Rattle.packet.proofs.run.put_init.Goals as goal
-use Rattle.packet.proofs.run.put_init.Goals.{After-to-2-1, Start}
+use Rattle.packet.proofs.run.put_init.Goals.{After-to-2-1}
 
 room : (c : After-to-2-1) → let a = c.args in Room a.run.now a.a a.label.source a.label.destination (21 + length a.topic.now)
 room c = record { source = search rules; target = search rules; fits = c.requires.1 }

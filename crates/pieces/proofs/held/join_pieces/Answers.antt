@@ -11,7 +11,7 @@ use Rattle.records.specs.HeldAt.{rec_in}
 use Rattle.records.specs.MetLaws.{here-reached}
 use Rattle.pieces.specs.OfHeldLaws.{cells-here, first-inside, here-links}
 use Rattle.pieces.proofs.held.join_pieces.Goals as goal
-use Rattle.pieces.proofs.held.join_pieces.Goals.{After-first_cell, Start}
+use Rattle.pieces.proofs.held.join_pieces.Goals.{After-first_cell}
 
 same : (c : After-first_cell) → let a = c.args in read_cells a.store.now c.first_cell.result ≡ (rec_in a.store.now a.link).cells
 same c = cells-here _ _ c.first_cell.ensures

@@ -3,7 +3,6 @@ use mathlib.Core.Path.{sym, ◌∙◌, subst}
 use Rattle.pieces.specs.InPlace.{CellIn}
 use Rattle.pieces.proofs.Inserts.{holds-cell, chunk-held, chunk-new}
 use Rattle.pieces.proofs.insert.put_in.Goals as goal
-use Rattle.pieces.proofs.insert.put_in.Goals.{After-holds, Start}
 
 pub rewrite-requires : goal.rewrite-requires
 rewrite-requires c =

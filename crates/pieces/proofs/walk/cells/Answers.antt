@@ -3,7 +3,7 @@ use native.Mathlib.Omega.{arith}
 use mathlib.Core.Path.{refl}
 use Rattle.pieces.proofs.Walks.{Met, met, added-end, added_out, added_more, ones}
 use Rattle.pieces.proofs.walk.cells.Goals as goal
-use Rattle.pieces.proofs.walk.cells.Goals.{After-cell_at-row, At-loop-n, Start}
+use Rattle.pieces.proofs.walk.cells.Goals.{After-cell_at-row}
 
 -- the chain is at a cell
 here : (c : After-cell_at-row) → Met c.args.store.now c.loop-n.place c.cell_at-row.result

@@ -7,7 +7,7 @@ use lib.ListN.{length}
 use Rattle.octets.specs.Octets.{put}
 use Rattle.pieces.proofs.Walks.{Piece, piece-here}
 use Rattle.pieces.proofs.walk.copy_piece.Goals as goal
-use Rattle.pieces.proofs.walk.copy_piece.Goals.{After-get16-size, Start}
+use Rattle.pieces.proofs.walk.copy_piece.Goals.{After-get16-size}
 
 here : (c : After-get16-size) → Piece c.args.store.now c.args.place c.cell_at-row.result c.get16-size.result
 here c =

@@ -7,7 +7,7 @@ use Rattle.octets.specs.Bools.{one}
 use Rattle.pieces.specs.ReadLaws.{piece-state}
 use Rattle.pieces.proofs.Walks.{Met, met, added-end, added_out, added_more, states}
 use Rattle.pieces.proofs.walk.count.Goals as goal
-use Rattle.pieces.proofs.walk.count.Goals.{After-cell_at-row, At-loop-n, Start}
+use Rattle.pieces.proofs.walk.count.Goals.{After-cell_at-row}
 
 -- the chain is at a cell
 here : (c : After-cell_at-row) → Met c.args.store.now c.loop-n.place c.cell_at-row.result

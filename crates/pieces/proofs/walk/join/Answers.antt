@@ -7,7 +7,7 @@ use Rattle.machine.specs.Layout.{cell_off}
 use Rattle.pieces.specs.ReadLaws.{cells-end, cells_out}
 use Rattle.pieces.proofs.Walks.{Met, met, joining-done, joining-fits, joining-more}
 use Rattle.pieces.proofs.walk.join.Goals as goal
-use Rattle.pieces.proofs.walk.join.Goals.{At-loop-n, Else-place-eq0, Start}
+use Rattle.pieces.proofs.walk.join.Goals.{Else-place-eq0}
 
 -- the chain is at a cell
 here : (c : Else-place-eq0) → Met c.args.store.now c.loop-n.place (cell_off c.loop-n.place)

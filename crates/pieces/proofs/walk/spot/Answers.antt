@@ -3,7 +3,7 @@ use native.Mathlib.Omega.{arith}
 use mathlib.Core.Path.{refl}
 use Rattle.pieces.proofs.Walks.{Met, met, spot_out, spot-end, spot-here, spot-more}
 use Rattle.pieces.proofs.walk.spot.Goals as goal
-use Rattle.pieces.proofs.walk.spot.Goals.{After-cell_at-row, After-small-place, At-loop-n, Start}
+use Rattle.pieces.proofs.walk.spot.Goals.{After-cell_at-row}
 
 pub loop-n-init : goal.loop-n-init
 loop-n-init c = record { turns = omega arith; within = c.requires.1; gives = refl }

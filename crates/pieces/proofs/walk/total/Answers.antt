@@ -3,7 +3,7 @@ use native.Mathlib.Omega.{arith}
 use mathlib.Core.Path.{refl, sym}
 use Rattle.pieces.proofs.Walks.{Met, met, Piece, piece-here, added-end, added_out, added_more, sums}
 use Rattle.pieces.proofs.walk.total.Goals as goal
-use Rattle.pieces.proofs.walk.total.Goals.{After-cell_at-row, After-get16-sum, At-loop-n, Start}
+use Rattle.pieces.proofs.walk.total.Goals.{After-cell_at-row, After-get16-sum}
 
 -- the chain is at a cell
 here : (c : After-cell_at-row) → Met c.args.store.now c.loop-n.place c.cell_at-row.result

@@ -3,7 +3,6 @@ use native.Mathlib.Omega.{arith}
 use mathlib.Core.Path.{refl}
 use Rattle.records.proofs.Following.{ends-out, ends-zero, ends-here, goes_on}
 use Rattle.records.proofs.find.find.Goals as goal
-use Rattle.records.proofs.find.find.Goals.{After-equal, After-small-place, At-loop-n}
 
 pub loop-n-init : goal.loop-n-init
 loop-n-init c = record { turns = omega arith; within = c.requires.1; gives = refl }

@@ -4,7 +4,6 @@ use Rattle.records.specs.MetLaws.{here-reached}
 use Rattle.records.specs.OpenedLaws.{fine-fields}
 use Rattle.records.specs.RestartedLaws.{restart-chain, restarted}
 use Rattle.records.proofs.restart.restart.Goals as goal
-use Rattle.records.proofs.restart.restart.Goals.{After-row_at-row, After-slice_known-1}
 
 pub row_at-row-requires : goal.row_at-row-requires
 row_at-row-requires c = let k = c in here-reached role_receive _ (λ i. (k.slice_known-1.given i).fits) _ k.requires.0

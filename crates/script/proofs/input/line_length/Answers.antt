@@ -1,4 +1,3 @@
-use Prim.Native.Nat.{◌-◌}
 use native.Mathlib.Omega.{arith}
 use Rattle.script.proofs.Lines.{line_on, line-off, line-end}
 use Rattle.script.proofs.input.line_length.Goals as goal

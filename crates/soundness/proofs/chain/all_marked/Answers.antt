@@ -1,4 +1,3 @@
-use Prim.Native.Nat.{◌-◌}
 use native.Mathlib.Omega.{arith}
 use Rattle.soundness.proofs.Walking.{marked-none, marked_more, marked_all}
 use Rattle.soundness.proofs.chain.all_marked.Goals as goal

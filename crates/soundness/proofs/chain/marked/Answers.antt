@@ -1,4 +1,3 @@
-use Prim.Native.Nat.{◌-◌}
 use mathlib.Core.Path.{sym, ◌∙◌}
 use native.Mathlib.Nat.{sub-zero}
 use native.Mathlib.Omega.{arith}
@@ -7,7 +6,6 @@ use Rattle.octets.specs.PartsLaws.{part_of}
 use Rattle.machine_laws.specs.Marks.{walk_end, walk-far, walk-twice, walk-bad, walk_more, walk-out}
 use Rattle.soundness.proofs.Walking.{row-end, row_sized, row-some, row_fits_lem, row_next}
 use Rattle.soundness.proofs.chain.marked.Goals as goal
-use Rattle.soundness.proofs.chain.marked.Goals.{At-loop-n, Else-x-count, Start}
 
 pub loop-n-init : goal.loop-n-init
 loop-n-init c = (omega arith, rw sub-zero)

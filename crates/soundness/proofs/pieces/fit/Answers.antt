@@ -1,4 +1,3 @@
-use Prim.Native.Nat.{◌-◌}
 use native.Mathlib.Omega.{arith}
 use mathlib.Core.Path.{◌≡◌, refl, ◌∙◌}
 use lib.ListN.{length}
@@ -6,7 +5,7 @@ use Rattle.octets.specs.BoolsLaws.{clash}
 use Rattle.machine.specs.Limits.{cell_bytes}
 use Rattle.soundness.proofs.Rests.{rest_all, cell_in, cell-long, fit_low, fit-high, fit-more, fit-end, fit-out, count-end, count-out}
 use Rattle.soundness.proofs.pieces.fit.Goals as goal
-use Rattle.soundness.proofs.pieces.fit.Goals.{After-cell-row, At-loop-n, Else-x-eq0, Start}
+use Rattle.soundness.proofs.pieces.fit.Goals.{After-cell-row}
 
 pub loop-n-init : goal.loop-n-init
 loop-n-init c =

@@ -1,6 +1,5 @@
 -- The invariant: the cells on the way can be read, and what is asked of the rest of the pieces is what is asked of all. Assumes nothing.
 use Prim.Native.Nat.{suc, ◌-◌}
-use lib.ListN.{length}
 use Rattle.machine.specs.Limits.{most_cells}
 use Rattle.soundness.proofs.Rests.{Turn}
 use Rattle.soundness.proofs.pieces.fit.Given as goal

@@ -1,4 +1,4 @@
-use Prim.Native.Nat.{◌-◌, ◌<◌, ◌≤◌}
+use Prim.Native.Nat.{◌<◌, ◌≤◌}
 use mathlib.Core.Path.{refl, sym, ◌∙◌, subst}
 use native.Mathlib.Omega.{arith}
 use Rattle.machine.specs.Limits.{rec_count}
@@ -8,7 +8,7 @@ use Rattle.soundness.specs.Walked.{Fitting}
 use Rattle.soundness.proofs.Walking.{cells-fitting}
 use Rattle.soundness.proofs.Rests.{way_end, way_out, way_at, way_on, pieces_none, scanned, pieces-bad, pieces_more}
 use Rattle.soundness.proofs.pieces.marked.Goals as goal
-use Rattle.soundness.proofs.pieces.marked.Goals.{At-loop-n, Else-x-eq0, Start}
+use Rattle.soundness.proofs.pieces.marked.Goals.{Else-x-eq0}
 
 at : (c : Else-x-eq0) → (0 < c.loop-n.x) × (c.loop-n.x ≤ rec_count)
 at c = way_at c.loop-n.invariant.0 (omega arith) c.if-x-eq0.false

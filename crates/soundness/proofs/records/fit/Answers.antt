@@ -1,13 +1,12 @@
-use Prim.Native.Nat.{◌-◌, ◌<◌, ◌≤◌}
+use Prim.Native.Nat.{◌<◌, ◌≤◌}
 use mathlib.Core.Path.{refl, sym, ◌∙◌}
-use mathlib.Core.Bool.{true}
 use native.Mathlib.Omega.{arith}
 use Rattle.octets.specs.BoolsLaws.{clash, split}
 use Rattle.machine.specs.Limits.{rec_count}
 use Rattle.soundness.proofs.Rests.{way_end, way_out, way_at, way_on, pieces-in, records-none, record-bad, record-more}
 use Rattle.soundness.proofs.Shares.{counted_none, counted-more}
 use Rattle.soundness.proofs.records.fit.Goals as goal
-use Rattle.soundness.proofs.records.fit.Goals.{At-loop-n, Else-x-eq0, Start}
+use Rattle.soundness.proofs.records.fit.Goals.{Else-x-eq0}
 
 at : (c : Else-x-eq0) → (0 < c.loop-n.x) × (c.loop-n.x ≤ rec_count)
 at c = way_at c.loop-n.invariant.0 (omega arith) c.if-x-eq0.false

@@ -1,4 +1,4 @@
-use Prim.Native.Nat.{◌-◌, ◌<◌, ◌≤◌}
+use Prim.Native.Nat.{◌<◌, ◌≤◌}
 use mathlib.Core.Path.{refl, sym, ap, ◌∙◌}
 use native.Mathlib.Omega.{arith}
 use Rattle.octets.specs.Lists.{all}
@@ -6,7 +6,7 @@ use Rattle.machine.specs.Limits.{rec_count}
 use Rattle.soundness.specs.Walked.{unlike}
 use Rattle.soundness.proofs.Rests.{way_end, way_out, way_at, way_on, unlike-bad, unlike-more}
 use Rattle.soundness.proofs.records.no_other.Goals as goal
-use Rattle.soundness.proofs.records.no_other.Goals.{At-loop-n, Else-y-eq0, Start}
+use Rattle.soundness.proofs.records.no_other.Goals.{Else-y-eq0}
 
 at : (c : Else-y-eq0) → (0 < c.loop-n.y) × (c.loop-n.y ≤ rec_count)
 at c = way_at c.loop-n.invariant.0 (omega arith) c.if-y-eq0.false

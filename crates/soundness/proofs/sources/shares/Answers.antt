@@ -1,4 +1,4 @@
-use Prim.Native.Nat.{◌-◌, ◌<◌, ◌≤◌}
+use Prim.Native.Nat.{◌<◌, ◌≤◌}
 use mathlib.Core.Path.{ap}
 use native.Mathlib.Omega.{arith}
 use Rattle.machine.specs.Limits.{rec_count}
@@ -7,7 +7,7 @@ use Rattle.soundness.specs.Walked.{share_at}
 use Rattle.soundness.proofs.Rests.{way_end, way_out, way_at, way_on}
 use Rattle.soundness.proofs.Shares.{shares-more}
 use Rattle.soundness.proofs.sources.shares.Goals as goal
-use Rattle.soundness.proofs.sources.shares.Goals.{At-loop-n, Else-y-eq0, Start}
+use Rattle.soundness.proofs.sources.shares.Goals.{Else-y-eq0}
 
 at : (c : Else-y-eq0) → (0 < c.loop-n.y) × (c.loop-n.y ≤ rec_count)
 at c = way_at c.loop-n.invariant.0 (omega arith) c.if-y-eq0.false

@@ -1,11 +1,11 @@
-use Prim.Native.Nat.{◌-◌, ◌<◌, ◌≤◌}
+use Prim.Native.Nat.{◌<◌, ◌≤◌}
 use mathlib.Core.Path.{refl, sym, ◌∙◌}
 use native.Mathlib.Omega.{arith}
 use Rattle.machine.specs.Limits.{rec_count}
 use Rattle.soundness.proofs.Rests.{way_end, way_out, way_at, way_on}
 use Rattle.soundness.proofs.Shares.{fair-none, fair-bad, fair-more}
 use Rattle.soundness.proofs.sources.within.Goals as goal
-use Rattle.soundness.proofs.sources.within.Goals.{At-loop-n, Else-x-eq0, Start}
+use Rattle.soundness.proofs.sources.within.Goals.{Else-x-eq0}
 
 at : (c : Else-x-eq0) → (0 < c.loop-n.x) × (c.loop-n.x ≤ rec_count)
 at c = way_at c.loop-n.invariant.0 (omega arith) c.if-x-eq0.false

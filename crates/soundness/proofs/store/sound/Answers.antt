@@ -11,7 +11,7 @@ use Rattle.soundness.proofs.Walking.{same_start}
 use Rattle.soundness.proofs.Whole.{head-room, no-head, no-records, no_cells, records-inside, held-chained}
 use Rattle.soundness.proofs.Whole.{whole-chained, sound-is, room_at, cells_at, chained-at, none_inside}
 use Rattle.soundness.proofs.store.sound.Goals as goal
-use Rattle.soundness.proofs.store.sound.Goals.{After-small-whole, Else-not-each, Else-not-head, Else-not-records, Start}
+use Rattle.soundness.proofs.store.sound.Goals.{Else-not-each, Else-not-head, Else-not-records}
 
 -- what is known there
 head : (c : Else-not-head) → let a = c.args in head_fits a.role a.store.now ≡ true

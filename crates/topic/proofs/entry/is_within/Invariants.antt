@@ -1,5 +1,5 @@
 -- `topic::entry::is_within` meets its contract: the loop keeps that the subnets left tell what all of the entry tell. Assumes nothing.
-use Prim.Native.Nat.{◌+◌, ◌*◌, ◌-◌, ◌≤◌}
+use Prim.Native.Nat.{◌+◌, ◌*◌, ◌≤◌}
 use mathlib.Core.Path.{◌≡◌}
 use lib.ListN.{length}
 use Rattle.topic.specs.Book.{subnet_bytes, within, subnets_at, subnets_of}

@@ -1,6 +1,5 @@
-use Prim.Native.Nat.{ℕ, ◌*◌, ◌-◌, ◌/◌}
+use Prim.Native.Nat.{ℕ, ◌*◌, ◌/◌}
 use native.Mathlib.Omega.{arith}
-use mathlib.Core.Bool.{true}
 use mathlib.Core.Path.{◌≡◌, refl, sym, ap, ◌∙◌}
 use Rattle.topic.specs.Subnet.{inside}
 use Rattle.topic.proofs.Prefix.{inside_on, inside-off, inside-last}

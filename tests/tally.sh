@@ -43,11 +43,21 @@ library() {
   local log crate
   log=$(mktemp)
   for crate in "$@"; do
-    if ! rt staticlib "$crate" >"$log" 2>&1; then
+    if ! tools/build library "$crate" >"$log" 2>&1; then
       tail -n 3 "$log"
       count "static library of $crate" 1
     fi
   done
+  rm -f "$log"
+}
+
+program() { # program NAME: the program as the sources have it now, target/bin/NAME
+  local log
+  log=$(mktemp)
+  if ! tools/build program "$1" >"$log" 2>&1; then
+    tail -n 3 "$log"
+    count "program $1" 1
+  fi
   rm -f "$log"
 }
 

@@ -10,29 +10,35 @@ An edit file, crates/NAME/must-fail/LABEL.edit, holds one block for each wrong p
     old: text that stands once in that file
     new: what the edit puts there
 
-A block may have several pairs of old: and new:, and several file: lines. `rt ci` and `rt must-fail` apply all blocks of a file at once, check the
-crate, and leave what the checker said in target/must-fail/NAME/LABEL/.log. The checker goes through every function, so one check tells of each
-wrong program of the file whether it is refused, as long as each changes functions of its own; a second change of a function stands in a second file.
-Definitions rest on each other: an edit of definitions has a file of its own.
+A block may have several pairs of old: and new:, and several file: lines. `rt ci` and `rt must-fail` apply all blocks of a file at once and ask only that
+the crate is refused. This tool asks what each block is refused for. It applies them in a copy of the crates, in target/edits, and reads what `rt check`
+says there; a block that is not told apart from the others of its file is tried alone. Definitions rest on each other: an edit of definitions has a
+file of its own.
 
-A function is refused by itself if the log says that it is not proved and has an error in its own proof. What only follows from another refusal does
-not count: a caller of a function that is not proved, and an error that blames a name ('was not admitted', 'has no field', 'can be named').
+A function is refused by itself if it is not proved, and has an error in its own proof or a goal that nothing closes. What only follows from another
+refusal does not count: a caller of a function that is not proved, and an error that blames a name ('was not admitted', 'has no field', 'can be named').
 
-    tools/edits.py            check every block of every edit file against the logs; the last line is 'N passed, M failed'
-    tools/edits.py --errors   the same, and print the first error of each wrong program
+    tools/edits.py            try every block of every edit file; the last line is 'N passed, M failed'
+    tools/edits.py NAME..     the same for these crates alone
+    tools/edits.py --errors   the same as the first, and print the first error of each wrong program (names of crates may follow)
     tools/edits.py --table    print the table of docs/PROOFS.md
     tools/edits.py --write    write it there, between the two marks
     tools/edits.py --check    whether it stands there as it would be written
     tools/edits.py --lint     check the blocks alone: every line there, every name once
 """
+import concurrent.futures
 import os
 import re
+import shutil
+import subprocess
 import sys
+import threading
 
 ROOT = os.path.dirname(os.path.dirname(os.path.abspath(__file__)))
 PAPER = os.path.join(ROOT, "docs", "PROOFS.md")
 START = "<!-- edits: made by tools/edits.py -->"
 END = "<!-- edits: end -->"
+COPY = os.path.join(ROOT, "target", "edits")
 LINES = ("wrong", "because", "refused", "file", "old", "new")
 # what the checker says where a declaration is refused for another's sake, or for a name that the edit took away
 FOLLOWS = ("was not admitted", "has no field", "can be named", "not in scope", "unknown name")
@@ -44,7 +50,7 @@ class Block:
     def __init__(self, crate, label, number):
         self.crate, self.label, self.number = crate, label, number
         self.lines = {kind: [] for kind in LINES}
-        self.places = []
+        self.places, self.changes = [], []
 
     def one(self, kind):
         return self.lines[kind][0] if self.lines[kind] else ""
@@ -82,7 +88,7 @@ class Block:
 def crates():
     """The crates, in the order of crates.txt."""
     with open(os.path.join(ROOT, "crates.txt"), encoding="utf-8") as text:
-        return [line.split(":")[0].strip() for line in text if ":" in line.split("#")[0]]
+        return [line.split(":")[0].split()[0] for line in text if ":" in line.split("#")[0]]
 
 
 def blocks_of(crate, label):
@@ -99,6 +105,8 @@ def blocks_of(crate, label):
             block.lines[kind].append(rest)
             if kind == "old" and block.lines["file"]:
                 block.places.append((block.lines["file"][-1], rest))
+            if kind == "new" and block.places:
+                block.changes.append((*block.places[-1], rest))
     return found
 
 
@@ -116,28 +124,25 @@ def files():
 
 
 class Log:
-    """What the checker said of one edit file."""
+    """What the checker said of one edit file, or of one block."""
 
-    def __init__(self, crate, text, place):
-        self.crate = crate
-        # the functions that are not proved, and of these the ones that have no proof file, with what is not closed
+    def __init__(self, text):
+        # the functions that are not proved, and of these the ones with a goal that nothing closes, with what is said of it
         self.unproved, self.open = set(), {}
         # the errors of a file: (declaration, what is said, the lines behind it)
         self.errors = {}
         behind = []
         for line in text.splitlines():
-            line = line.replace(place + os.sep, "")
             state = re.match(r"fn (\S+): (not proved|no proof)(.*)", line)
-            error = re.match(r"(\S+?):\d+:\d+: error: (?:`([^`]*)`: )?(.*)", line)
+            error = re.match(r"(?:\./)?(\S+?):\d+:\d+: error: (?:`([^`]*)`: )?(.*)", line)
             if line.startswith("  "):
                 behind.append(line.strip())
                 continue
             behind = []
             if state:
                 self.unproved.add(state[1])
-                why = state[3].partition("; ")[2]
-                if state[2] == "no proof" and not why.startswith("it calls"):
-                    self.open[state[1]] = why
+                if "did not prove" in state[3]:
+                    self.open[state[1]] = state[3].partition("; ")[2]
             elif error:
                 self.errors.setdefault(error[1], []).append((error[2] or "", error[3], behind))
 
@@ -148,14 +153,13 @@ class Log:
             return self.first(path, lambda found: found == law)
         if name not in self.unproved:
             return None
-        if name in self.open:
-            return self.open[name]
         parts = name.split("::")[1:]
         for last in (parts[-1], "+" + parts[-1]):
-            said = self.first("/".join(["proofs", *parts[:-1], last, "Proof.antt"]), lambda _: True)
-            if said:
-                return said
-        return None
+            for file in ("Answers.antt", "Invariants.antt"):
+                said = self.first("/".join(["proofs", *parts[:-1], last, file]), lambda _: True)
+                if said:
+                    return said
+        return self.open.get(name)
 
     def first(self, path, wanted):
         for law, said, behind in self.errors.get(path, []):
@@ -167,7 +171,7 @@ class Log:
         """Everything that is refused by itself: functions, and laws of the definitions."""
         found = {name for name in self.unproved if self.own(name)}
         for path, errors in self.errors.items():
-            if path.startswith("specs/") or (path.startswith("proofs/") and not path.endswith("/Proof.antt")):
+            if path.startswith("specs/") or (path.startswith("proofs/") and not path.endswith(("/Answers.antt", "/Invariants.antt"))):
                 found |= {f"{path} {law}" for law, said, _ in errors if not any(words in said for words in FOLLOWS)}
         return found
 
@@ -177,54 +181,134 @@ def short(line):
     return line if len(line) <= 300 else f"{line[:200]} .. {line[-96:]}"
 
 
-def check(show):
-    """Every block against its log; the tally."""
+def read(path):
+    with open(path, encoding="utf-8") as text:
+        return text.read()
+
+
+class Trial:
+    """A copy of the crates, in which edits are tried. A crate is edited only when no crate above it is tried any more."""
+
+    def __init__(self):
+        shutil.rmtree(COPY, ignore_errors=True)
+        leave = shutil.ignore_patterns("out", "must-fail")
+        shutil.copytree(os.path.join(ROOT, "crates"), os.path.join(COPY, "crates"), ignore=leave)
+        shutil.copy(os.path.join(ROOT, "crates.txt"), COPY)
+
+    def check(self, crate):
+        """What `rt check` says of a crate as it stands in the copy: its exit status and its words."""
+        words = ["rt", "check", "--jobs", "1"]
+        ran = subprocess.run(words, cwd=os.path.join(COPY, "crates", crate), stdin=subprocess.DEVNULL, capture_output=True, text=True)
+        return ran.returncode, ran.stdout + ran.stderr
+
+    def tried(self, crate, blocks):
+        """The log of a crate with these blocks, and why it cannot be had; the crate is put back afterwards."""
+        folder, before = os.path.join(COPY, "crates", crate), {}
+        try:
+            for block in blocks:
+                for path, old, new in block.changes:
+                    whole = os.path.join(folder, path)
+                    text = read(whole)
+                    before.setdefault(whole, text)
+                    if text.count(old) != 1:
+                        return None, f"'{old}' stands {text.count(old)} times in {path}"
+                    with open(whole, "w", encoding="utf-8") as out:
+                        out.write(text.replace(old, new))
+            status, said = self.check(crate)
+            return (Log(said), "") if status == 1 else (None, f"rt check ended with {status}")
+        finally:
+            for path, text in before.items():
+                with open(path, "w", encoding="utf-8") as out:
+                    out.write(text)
+
+
+def above():
+    """The crates that stand on each crate, at any distance."""
+    lines = [line.split("#")[0].split(":") for line in read(os.path.join(ROOT, "crates.txt")).splitlines() if ":" in line.split("#")[0]]
+    needs = {line[0].split()[0]: line[1].split() for line in lines}
+
+    def rests(name, on):
+        return any(need == on or rests(need, on) for need in needs.get(name, ()))
+
+    return {name: {other for other in needs if rests(other, name)} for name in needs}
+
+
+def faults_of(blocks, block, log, alone):
+    """What is wrong with a block, by the log of its file; `alone` tries it by itself."""
+    shared = [name for name in block.refused() if any(name in other.refused() for other in blocks if other is not block)]
+    if block.faults() or shared:
+        return block.faults() or ["another block of the file names it too: " + ", ".join(shared)], log
+    missing = [name for name in block.refused() if not log.own(name)]
+    if missing and len(blocks) > 1:
+        single, why = alone(block)
+        if single is None:
+            return [why], log
+        log, missing = single, [name for name in block.refused() if not single.own(name)]
+    return (["not refused by itself: " + ", ".join(missing)] if missing else []), log
+
+
+def told(one, block, log):
+    """The first error of each function or law that a block is refused for."""
+    lines = [f"{one}: {block.one('because')}"]
+    for name in block.refused():
+        first, *behind = log.own(name).splitlines()
+        lines += [f"    {name}: {short(first)}", *(f"        {short(line)}" for line in behind[:4])]
+    return lines
+
+
+def verdicts(trial, crate, label, blocks):
+    """What is to be said of an edit file, and of how many blocks: (passed, failed, lines)."""
+    what = f"{crate}/{label}"
+    if not blocks:
+        return 0, 1, [f"{what}: FAILED: it has no block"]
+    log, why = trial.tried(crate, blocks)
+    if log is None:
+        return 0, len(blocks), [f"{what}: FAILED: {why}"]
+    passed, failed, lines = 0, 0, []
+    for block in blocks:
+        one = f"{crate}/{block.name()}"
+        faults, own = faults_of(blocks, block, log, lambda it: trial.tried(crate, [it]))
+        if faults:
+            failed += 1
+            lines.append(f"{one}: FAILED: {'; '.join(faults)}")
+        else:
+            passed += 1
+            lines += told(one, block, own)
+    meant = {name for block in blocks for name in block.refused()}
+    if not any(" " in name for name in meant):
+        for name in sorted(log.by_themselves() - meant):
+            failed += 1
+            lines.append(f"{what}: FAILED: {name} is refused by itself, and no block names it")
+    return passed, failed, lines
+
+
+def check(show, only):
+    """Every block of these crates (of all, where none is named), tried; the tally."""
+    todo = {}
+    for crate, label, blocks in files():
+        if not only or crate in only:
+            todo.setdefault(crate, []).append((label, blocks))
+    trial, higher, done = Trial(), above(), {crate: threading.Event() for crate in todo}
     passed = failed = 0
 
-    def bad(what, why):
-        nonlocal failed
-        failed += 1
-        print(f"{what}: FAILED: {why}")
+    def crate_of(crate):
+        for other in higher[crate] & set(done):
+            done[other].wait()
+        try:
+            status, said = trial.check(crate)
+            if status != 0:
+                return 0, 1, [f"{crate}: FAILED: it is not proved without edits: {said.splitlines()[-1:]}"]
+            parts = [verdicts(trial, crate, label, blocks) for label, blocks in todo[crate]]
+            return sum(part[0] for part in parts), sum(part[1] for part in parts), [line for part in parts for line in part[2]]
+        finally:
+            done[crate].set()
 
-    for crate, label, blocks in files():
-        what = f"{crate}/{label}"
-        place = os.path.join(ROOT, "target", "must-fail", crate, label)
-        if not blocks:
-            bad(what, "it has no block")
-            continue
-        said, edit = os.path.join(place, ".log"), os.path.join(ROOT, "crates", crate, "must-fail", label + ".edit")
-        if not os.path.exists(said) or os.path.getmtime(said) < os.path.getmtime(edit):
-            bad(what, "no log of this edit: `rt ci` or `rt must-fail` has not tried it")
-            continue
-        with open(said, encoding="utf-8") as text:
-            log = Log(crate, text.read(), place)
-        for block in blocks:
-            one = f"{crate}/{block.name()}"
-            faults = block.faults()
-            if faults:
-                bad(one, "; ".join(faults))
-                continue
-            shared = [name for name in block.refused() if any(name in other.refused() for other in blocks if other is not block)]
-            if shared:
-                bad(one, "another block of the file names it too: " + ", ".join(shared))
-                continue
-            missing = [name for name in block.refused() if not log.own(name)]
-            if missing:
-                bad(one, "not refused by itself: " + ", ".join(missing))
-                continue
-            passed += 1
-            if show:
-                print(f"{one}: {block.one('because')}")
-                for name in block.refused():
-                    first, *behind = log.own(name).splitlines()
-                    print(f"    {name}: {short(first)}")
-                    for line in behind[:4]:
-                        print(f"        {short(line)}")
-        meant = {name for block in blocks for name in block.refused()}
-        definitions = any(" " in name for name in meant)
-        for name in sorted(log.by_themselves() - meant):
-            if not definitions:
-                bad(what, f"{name} is refused by itself, and no block names it")
+    with concurrent.futures.ThreadPoolExecutor(os.cpu_count()) as pool:
+        # those that nothing stands on first, so that no thread waits for one that has not begun
+        order = sorted(todo, key=lambda crate: len(higher[crate] & set(todo)))
+        for good, bad, lines in pool.map(crate_of, order):
+            passed, failed = passed + good, failed + bad
+            print("\n".join(line for line in lines if show or ": FAILED: " in line) or "", end="\n" if lines and (show or bad) else "", flush=True)
     print(f"{passed} passed, {failed} failed")
     return failed == 0 and passed > 0
 
@@ -284,8 +368,9 @@ def main(words):
         return lint()
     if words == ["--lint"]:
         return lint()
-    if words in ([], ["--errors"]):
-        return check(words == ["--errors"])
+    show, names = words[:1] == ["--errors"], [word for word in words if not word.startswith("-")]
+    if len(words) == show + len(names) and set(names) <= set(crates()):
+        return check(show, set(names))
     print(__doc__)
     return False
 

@@ -10,7 +10,7 @@ use Rattle.script.specs.Input.{length_of, is_one_number}
 use Rattle.script.specs.InputLaws.{one-number-short}
 use Rattle.cutter.specs.Cuts.{is_length}
 use Rattle.cutter.specs.Text.{CutOutcome, cuts_of, text_of}
-use Rattle.cutter.specs.TextLaws.{length-facts}
+use Rattle.cutter.proofs.TextLaws.{length-facts}
 use Rattle.cuts.specs.Cuts.{cuts_text}
 
 too_long : (s : List ℕ) → 6 < length s → cuts_text s ≡ []

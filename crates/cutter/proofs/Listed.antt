@@ -17,7 +17,7 @@ use Rattle.script.specs.Input.{length_of, is_one_number}
 use Rattle.script.specs.Script.{number_of}
 use Rattle.cutter.specs.Cuts.{unit, is_length, cuts}
 use Rattle.cutter.specs.Text.{line_of, lines_of, text_of, cuts_of}
-use Rattle.cutter.specs.TextLaws.{text_most, length-facts, text-fits}
+use Rattle.cutter.proofs.TextLaws.{text_most, length-facts, text-fits}
 use Rattle.cutter.specs.Fronts.{Wrote, lines_behind, growing, Room}
 
 -- ---- the input

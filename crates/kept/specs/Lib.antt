@@ -3,8 +3,3 @@
 pub mod Sizes
 pub mod Survey
 pub mod Kept
-pub mod KeepsLaws
-pub mod FramesLaws
-pub mod RecordLaws
-pub mod ExactlyLaws
-pub mod WorkedLaws

@@ -24,8 +24,8 @@ use Rattle.packet.specs.Outgoing.{entry, reply_packet}
 use Rattle.machine.specs.Layout.{decode}
 use Rattle.machine.specs.Refusals.{refusal}
 use Rattle.machine.specs.Packet.{Packet, kind, reply_bytes, replied, kind_out, kind_row, arrival, packet_front, packet_row, packet_at, packet_of, packet_room}
-use Rattle.machine_steps.specs.Refusals.{refusal-front}
-use Rattle.machine_steps.specs.Frames.{reply-came}
+use Rattle.machine_steps.proofs.Refusals.{refusal-front}
+use Rattle.machine_steps.proofs.Frames.{reply-came}
 use Rattle.link.specs.Entries.{filled, entry_end, entries_of, from_of, to_of, frame_of}
 use Rattle.link.specs.EntriesLaws.{entries-one, entries_none}
 use Rattle.link.specs.Stored.{stored}

@@ -19,10 +19,10 @@ use Rattle.machine.specs.Receive.{rec_key, started, init_at, found, replaced, fr
 use Rattle.machine_laws.specs.Rep.{Rep, rep-encode, encode-rep}
 use Rattle.machine_laws.specs.Write.{Wrote}
 use Rattle.machine_laws.specs.SoundValid.{sound-valid}
-use Rattle.machine_steps.specs.Held.{held-own}
-use Rattle.machine_steps.specs.Drop.{drop-at}
-use Rattle.machine_steps.specs.Done.{done-valid}
-use Rattle.machine_steps.specs.Take.{take-valid}
+use Rattle.machine_steps.proofs.Held.{held-own}
+use Rattle.machine_steps.proofs.Drop.{drop-at}
+use Rattle.machine_steps.proofs.Done.{done-valid}
+use Rattle.machine_steps.proofs.Take.{take-valid}
 use Rattle.machine_writes.specs.Split.{Split, found-split}
 use Rattle.machine_writes.specs.Unheld.{led_to}
 use Rattle.machine_writes.specs.Release.{release_bytes, release_store}

@@ -17,8 +17,8 @@ use Rattle.machine.specs.Choice.{waiting, most_sent, chosen}
 use Rattle.machine.specs.Send.{with_cells, change_at, change, chunk_out, chunks_out, with_stamps}
 use Rattle.machine.specs.Typed.{TypedClock}
 use Rattle.machine.specs.Wake.{send_wake_room}
-use Rattle.machine_steps.specs.Waiting.{chosen-most}
-use Rattle.machine_steps.specs.Stamps.{stamped-none}
+use Rattle.machine_steps.proofs.Waiting.{chosen-most}
+use Rattle.machine_steps.proofs.Stamps.{stamped-none}
 use Rattle.records.specs.HeldAt.{place_at, rec_in, key_in}
 use Rattle.outbox.specs.Leaves.{Here}
 use Rattle.outbox.specs.Line.{places_of}

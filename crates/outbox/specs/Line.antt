@@ -3,7 +3,7 @@ use Rattle.std.specs.Prelude.{ℕ, suc, cond, List, [], ◌∷◌, ◌++◌, map
 use Rattle.machine.specs.Values.{Cell}
 use Rattle.machine.specs.Layout.{cell_place}
 use Rattle.machine.specs.Choice.{is_started, most_sent}
-use Rattle.machine_steps.specs.Waiting.{wants}
+use Rattle.machine_steps.proofs.Waiting.{wants}
 
 -- a lower rank goes first: Started ones, then by the oldest stamp
 abbrev pub rank : Cell → ℕ

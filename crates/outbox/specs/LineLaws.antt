@@ -12,7 +12,7 @@ use Rattle.machine.specs.Codes.{piece_started, piece_sent}
 use Rattle.machine.specs.Values.{Cell}
 use Rattle.machine.specs.Layout.{cell_place}
 use Rattle.machine.specs.Choice.{is_started, is_due, only, insert, by_stamp, waiting, most_sent}
-use Rattle.machine_steps.specs.Waiting.{wants, only-all, sorted_all, waiting-all}
+use Rattle.machine_steps.proofs.Waiting.{wants, only-all, sorted_all, waiting-all}
 use Rattle.outbox.specs.Line.{rank, never, ranked, turn, put_in, eight_of, ranks_of}
 
 -- ---- a number comes in

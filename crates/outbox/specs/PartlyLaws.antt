@@ -25,10 +25,11 @@ use Rattle.machine_writes.specs.Links.{Links}
 use Rattle.machine_writes.specs.InRange.{valid-links}
 use Rattle.machine_writes.specs.Split.{Split}
 use Rattle.machine_writes.specs.Swap.{held_store}
-use Rattle.machine_steps.specs.Marks.{marks-stamped, rising-map}
-use Rattle.machine_steps.specs.Remarked.{remarked-valid, held_small}
-use Rattle.machine_steps.specs.Waiting.{Within}
-use Rattle.machine_steps.specs.Stamps.{stamped-one, stamped-then, next-within}
+use Rattle.machine_steps.proofs.Marks.{marks-stamped, rising-map}
+use Rattle.machine_steps.proofs.RemarkedValid.{held_small}
+use Rattle.machine_steps.proofs.RemarkedValid.{remarked-valid}
+use Rattle.machine_steps.proofs.Waiting.{Within}
+use Rattle.machine_steps.proofs.Stamps.{stamped-one, stamped-then, next-within}
 use Rattle.records.specs.HeldAt.{rec_in, key_in, HeldAt}
 use Rattle.records.specs.MetLaws.{valid, rep, held-here, here-key, here-fine, here-split}
 use Rattle.pieces.specs.InPlace.{remarked}

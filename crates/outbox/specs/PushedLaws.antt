@@ -19,8 +19,8 @@ use Rattle.machine_laws.specs.StoreRows.{held-free}
 use Rattle.machine_laws.specs.FreeRow.{free-map}
 use Rattle.machine_laws.specs.Rep.{Rep}
 use Rattle.machine_laws.specs.Walks.{head_byte}
-use Rattle.machine_steps.specs.Cut.{places-cut}
-use Rattle.machine_steps.specs.Push.{leaving, leaving-sized, pushed-valid}
+use Rattle.machine_steps.proofs.PlacesCut.{places-cut}
+use Rattle.machine_steps.proofs.Push.{leaving, leaving-sized, pushed-valid}
 use Rattle.machine_writes.specs.InRange.{links}
 use Rattle.machine_writes.specs.Byte.{first_byte}
 use Rattle.machine_writes.specs.Cut.{cut_bytes, cut-ready}

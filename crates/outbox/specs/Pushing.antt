@@ -11,7 +11,7 @@ use Rattle.machine.specs.Receive.{found}
 use Rattle.machine.specs.Send.{push_step}
 use Rattle.machine.specs.Push.{Push, push_label, pushed}
 use Rattle.records.specs.HeldAt.{Sends}
-use Rattle.machine_steps.specs.Init.{LabelFine}
+use Rattle.machine_steps.specs.LabelFine.{LabelFine}
 
 -- what the row leaves: a label that a record can have, an id that is not held, and a record and the cells that the pieces need free
 pub record Pushable (b : List ℕ) (h : Label) (bytes : List ℕ) : Type 0 where

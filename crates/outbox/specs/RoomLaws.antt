@@ -15,8 +15,8 @@ use Rattle.machine.specs.Valid.{LabelSized}
 use Rattle.machine.specs.Choice.{most_sent, chosen}
 use Rattle.machine.specs.Send.{chunk_out, chunks_out}
 use Rattle.machine.specs.Wake.{send_wake_room}
-use Rattle.machine_steps.specs.Leaving.{leaving-most}
-use Rattle.machine_steps.specs.Waiting.{wants, chosen-all}
+use Rattle.machine_steps.proofs.Leaving.{leaving-most}
+use Rattle.machine_steps.proofs.Waiting.{wants, chosen-all}
 use Rattle.records.specs.HeldAt.{rec_in}
 use Rattle.records.specs.MetLaws.{here-fine}
 use Rattle.outbox.specs.Leaves.{Here}

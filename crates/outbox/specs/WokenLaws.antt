@@ -14,8 +14,8 @@ use Rattle.machine.specs.Layout.{sending_of, rec_of, encode, decode}
 use Rattle.machine.specs.Receive.{replaced}
 use Rattle.machine.specs.Choice.{most_sent, chosen}
 use Rattle.machine.specs.Send.{with_held, with_cells, change_at, change, with_stamps, sends_pieces, sent_pieces, all_acked, init_out, done_out, chunks_out, wake_out, woken}
-use Rattle.machine_steps.specs.Waiting.{acked-waits}
-use Rattle.machine_steps.specs.Stamps.{stamped-none}
+use Rattle.machine_steps.proofs.Waiting.{acked-waits}
+use Rattle.machine_steps.proofs.Stamps.{stamped-none}
 use Rattle.records.specs.HeldAt.{row_in, rec_in, key_in}
 use Rattle.outbox.specs.Leaves.{Here}
 use Rattle.outbox.specs.Sending.{Starts, Wakes, progress_out}

@@ -9,7 +9,7 @@ use Rattle.octets.specs.PartsLaws.{part_of, part-put-same}
 use Rattle.machine.specs.Values.{Cell}
 use Rattle.machine.specs.Sound.{sizes}
 use Rattle.machine.specs.Pieces.{joined}
-use Rattle.machine_steps.specs.ByIndex.{length-joined}
+use Rattle.machine_steps.proofs.ByIndex.{length-joined}
 
 -- are all of its first bytes
 pub sum_of : (l : List Cell) (z m : List ℕ) (n : ℕ) → sizes l ≤ length z → n ≡ sizes l → m ≡ put z 0 (joined l) → take (n - 0) (drop 0 m) ≡ joined l

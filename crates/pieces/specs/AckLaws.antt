@@ -19,9 +19,9 @@ use Rattle.machine_laws.specs.Rep.{Rep, rep-encode}
 use Rattle.machine_writes.specs.Split.{Split, found-split}
 use Rattle.machine_writes.specs.Swap.{held_store}
 use Rattle.machine_writes.specs.InRange.{links}
-use Rattle.machine_steps.specs.Find.{find-key}
-use Rattle.machine_steps.specs.Leaving.{leaving-piece}
-use Rattle.machine_steps.specs.SendValid.{ack-valid}
+use Rattle.machine_steps.proofs.Find.{find-key}
+use Rattle.machine_steps.proofs.Leaving.{leaving-piece}
+use Rattle.machine_steps.proofs.SendValid.{ack-valid}
 use Rattle.records.specs.HeldAt.{place_at, rec_in, key_in, HeldAt}
 use Rattle.records.specs.MetLaws.{valid, rep, held-here}
 use Rattle.pieces.specs.InPlace.{spot_in, remarked, CellIn}

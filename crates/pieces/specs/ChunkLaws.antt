@@ -35,8 +35,8 @@ use Rattle.machine_laws.specs.Walks.{head_byte, cells-once}
 use Rattle.machine_writes.specs.Unheld
 use Rattle.machine_writes.specs.Split.{Split, found-split}
 use Rattle.machine_writes.specs.Swap.{held_store, row_is}
-use Rattle.machine_steps.specs.Find.{find-key}
-use Rattle.machine_steps.specs.Chunk.{chunk-valid}
+use Rattle.machine_steps.proofs.Find.{find-key}
+use Rattle.machine_steps.proofs.ChunkValid.{chunk-valid}
 use Rattle.machine_writes.specs.Links.{Links}
 use Rattle.machine_writes.specs.InRange.{links}
 use Rattle.records.specs.HeldAt.{place_at, rec_in, key_in, HeldAt}

@@ -15,7 +15,7 @@ use Rattle.machine_laws.specs.Rep.{Rep}
 use Rattle.machine_laws.specs.Write.{Wrote, write-field}
 use Rattle.machine_writes.specs.Swap.{held_store}
 use Rattle.machine_writes.specs.CellSwap.{cell-rep}
-use Rattle.machine_steps.specs.Stamps.{only_at}
+use Rattle.machine_steps.proofs.Stamps.{only_at}
 use Rattle.pieces.specs.InPlace.{remarked}
 use Rattle.pieces.specs.HeldLaws.{piece-in, piece-row, fine}
 

@@ -20,7 +20,7 @@ use Rattle.machine.specs.Find.{find, is_some}
 use Rattle.machine.specs.Pieces.{new_cell, piece_at, put_piece}
 use Rattle.machine_laws.specs.Rows.{Held}
 use Rattle.machine_writes.specs.Link.{link_at}
-use Rattle.machine_steps.specs.Pieces.{rising-parts, piece-below}
+use Rattle.machine_steps.proofs.Pieces.{rising-parts, piece-below}
 use Rattle.pieces.specs.ReadLaws.{cell-byte, cell-next}
 use Rattle.pieces.specs.InPlace.{index_behind, spot_from, holds_index}
 

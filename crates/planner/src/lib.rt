@@ -8,7 +8,7 @@ ghost use Rattle.octets.specs.Octets.{put};
 ghost use Rattle.packet.specs.Frame.{largest_piece};
 ghost use Rattle.machine.specs.Limits.{longest};
 ghost use Rattle.planner.specs.Plan.{words, plan_of};
-ghost use Rattle.planner.specs.FormLaws.{planned, plannable};
+ghost use Rattle.planner.specs.Form.{planned, plannable};
 
 use answer::Answer;
 use packet::chunk::MessageChunk;

@@ -17,7 +17,7 @@ use Rattle.machine_writes.specs.Encodes
 use Rattle.machine_writes.specs.Split.{Split}
 use Rattle.machine_writes.specs.Swap.{row_is}
 use Rattle.machine_writes.specs.Unheld.{link_behind}
-use Rattle.machine_steps.specs.Held.{held-own}
+use Rattle.machine_steps.proofs.Held.{held-own}
 use Rattle.records.specs.Seek.{seek}
 use Rattle.records.specs.InChainsLaws.{held_found}
 use Rattle.records.specs.HeldAt.{place_at, rec_in, key_in, HeldAt}

@@ -34,9 +34,9 @@ use Rattle.machine_writes.specs.FreeRecord.{rec_freed}
 use Rattle.machine_writes.specs.Release.{pieces-around, release_bytes, release_store}
 use Rattle.machine_writes.specs.Drop.{drop_rep}
 use Rattle.machine_writes.specs.Take.{take_rep}
-use Rattle.machine_steps.specs.Find.{find-key, all_found}
-use Rattle.machine_steps.specs.Drop.{drop-valid}
-use Rattle.machine_steps.specs.Take.{take-valid}
+use Rattle.machine_steps.proofs.Find.{find-key, all_found}
+use Rattle.machine_steps.proofs.Drop.{drop-valid}
+use Rattle.machine_steps.proofs.Take.{take-valid}
 use Rattle.records.specs.Seek.{seek}
 use Rattle.records.specs.InChainsLaws.{held_found}
 use Rattle.records.specs.HeldAt.{rec_in, key_in, HeldAt}

@@ -20,7 +20,7 @@ use Rattle.machine_laws.specs.Walks.{head_byte, recs-once, cells-once}
 use Rattle.machine_laws.specs.Rep.{Rep}
 use Rattle.machine_laws.specs.SoundValid.{sound-valid}
 use Rattle.machine_writes.specs.Split.{found-split}
-use Rattle.machine_steps.specs.Find.{all_found}
+use Rattle.machine_steps.proofs.Find.{all_found}
 use Rattle.machine_writes.specs.Links.{Links}
 use Rattle.machine_writes.specs.InRange.{links, sound-rep}
 use Rattle.records.specs.Seek.{seek}

@@ -17,7 +17,7 @@ use Rattle.machine_laws.specs.Rep.{Rep}
 use Rattle.machine_laws.specs.Walks.{Walks, cells-once, pieces-walk}
 use Rattle.machine_writes.specs.Split.{Split, found-split}
 use Rattle.machine_writes.specs.Release.{pieces-around}
-use Rattle.machine_steps.specs.Find.{all_found}
+use Rattle.machine_steps.proofs.Find.{all_found}
 
 -- the pieces of a record are linked
 pub pieces-linked : (b : List ℕ) (C : ℕ) (r : Rec) → C ≤ most_cells → Walks b r

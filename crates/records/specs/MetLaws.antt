@@ -24,10 +24,10 @@ use Rattle.machine_writes.specs.Links.{RecLink, Links}
 use Rattle.machine_writes.specs.Split.{Split, found-split}
 use Rattle.machine_writes.specs.Swap.{row_is}
 use Rattle.machine_writes.specs.Unheld
-use Rattle.machine_steps.specs.Find.{all_found, find-key}
-use Rattle.machine_steps.specs.Held.{held-fine, held-sized}
-use Rattle.machine_steps.specs.Keys.{distinct-unique}
-use Rattle.machine_steps.specs.Unique.{unique-apart}
+use Rattle.machine_steps.proofs.Find.{all_found, find-key}
+use Rattle.machine_steps.proofs.Held.{held-fine, held-sized}
+use Rattle.machine_steps.proofs.Keys.{distinct-unique}
+use Rattle.machine_steps.proofs.Unique.{unique-apart}
 use Rattle.records.specs.Seek.{id_in, seek}
 use Rattle.records.specs.SoughtLaws.{seek-link}
 use Rattle.records.specs.InChainsLaws.{held_found, held_none}

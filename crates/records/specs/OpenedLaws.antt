@@ -28,7 +28,8 @@ use Rattle.machine_laws.specs.Walks.{head_byte}
 use Rattle.machine_laws.specs.SoundValid.{sound-valid}
 use Rattle.machine_writes.specs.Unheld.{rec_tail, rec-parts}
 use Rattle.machine_writes.specs.Encodes
-use Rattle.machine_steps.specs.Init.{LabelFine, started-valid}
+use Rattle.machine_steps.proofs.Init.{started-valid}
+use Rattle.machine_steps.specs.LabelFine.{LabelFine}
 use Rattle.machine_writes.specs.Byte.{first_byte, put-before}
 use Rattle.machine_writes.specs.InRange.{sound-rep}
 use Rattle.records.specs.Opening.{Openable, opened, FieldsFit, new_rec, front_of, rest_of, new_row, opened_row, opened_with, Ready}

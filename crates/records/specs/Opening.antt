@@ -10,7 +10,7 @@ use Rattle.machine.specs.Values.{Label, Cell, Rec, key_of}
 use Rattle.machine.specs.Layout.{free_at, held_at, id_width, address_width, number_width, rec_off, rec_row, decode}
 use Rattle.machine.specs.Sound.{sound}
 use Rattle.machine.specs.Receive.{found}
-use Rattle.machine_steps.specs.Init.{LabelFine}
+use Rattle.machine_steps.specs.LabelFine.{LabelFine}
 
 -- a record is free
 pub record Openable (b : List ℕ) : Type 0 where

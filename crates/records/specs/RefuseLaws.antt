@@ -5,7 +5,7 @@ use Rattle.octets.specs.BoolsLaws.{cases, split}
 use Rattle.machine.specs.Values.{Store}
 use Rattle.machine.specs.Layout.{encode}
 use Rattle.machine.specs.Refusals.{Refusals, refusal}
-use Rattle.machine_steps.specs.Refusals.{positive}
+use Rattle.machine_steps.proofs.Refusals.{positive}
 use Rattle.records.specs.Step.{stepped}
 
 -- a test that holds, and one that fails

@@ -21,7 +21,8 @@ use Rattle.machine_laws.specs.Write.{Wrote, write-field, rec-leaves-cells}
 use Rattle.machine_writes.specs.Encodes
 use Rattle.machine_writes.specs.FreeCells.{cells_freed}
 use Rattle.machine_writes.specs.Unheld.{rec_tail, rec-parts}
-use Rattle.machine_steps.specs.Init.{LabelFine, started-valid}
+use Rattle.machine_steps.proofs.Init.{started-valid}
+use Rattle.machine_steps.specs.LabelFine.{LabelFine}
 use Rattle.records.specs.HeldAt.{place_at, rec_in, key_in, HeldAt}
 use Rattle.records.specs.MetLaws.{valid, rep, held-here, here-key, here-sized, here-within, here-not-whole, here-links}
 use Rattle.records.specs.AroundLaws.{next_here, around-row, around-first}

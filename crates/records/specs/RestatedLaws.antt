@@ -15,8 +15,10 @@ use Rattle.machine.specs.Layout.{state_at, timed_out_at, rec_off, rec_row, rec_a
 use Rattle.machine.specs.Send.{change_at, change, with_state, timed_out}
 use Rattle.machine_laws.specs.Write.{Wrote, write-field}
 use Rattle.machine_writes.specs.Encodes
-use Rattle.machine_steps.specs.Change.{changed}
-use Rattle.machine_steps.specs.Remarked.{remarked, restated-valid, held_small}
+use Rattle.machine_steps.proofs.Change.{changed}
+use Rattle.machine_steps.proofs.Remarked.{remarked}
+use Rattle.machine_steps.proofs.RemarkedValid.{held_small}
+use Rattle.machine_steps.proofs.RemarkedValid.{restated-valid}
 use Rattle.records.specs.HeldAt.{place_at, rec_in, key_in, HeldAt}
 use Rattle.records.specs.MetLaws.{valid, rep, held-here, here-within}
 use Rattle.records.specs.AroundLaws.{next_here, around-row}

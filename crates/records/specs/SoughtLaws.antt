@@ -24,7 +24,7 @@ use Rattle.machine_laws.specs.Keys.{key-eq, key-refl}
 use Rattle.machine_writes.specs.Link.{link_at, link-read, rows_append}
 use Rattle.machine_writes.specs.Split.{Split}
 use Rattle.machine_writes.specs.Unheld.{rec_tail, rec-parts}
-use Rattle.machine_steps.specs.Find.{find-key}
+use Rattle.machine_steps.proofs.Find.{find-key}
 use Rattle.machine_writes.specs.Links.{RecLink, Links}
 use Rattle.records.specs.Seek.{id_in, seek_from, seek}
 

@@ -6,7 +6,7 @@ ghost use Rattle.machine.specs.Codes.{role_receive};
 ghost use Rattle.machine.specs.Layout.{encode, decode};
 ghost use Rattle.machine.specs.Receive.{init_at};
 ghost use Rattle.records.specs.HeldAt.{rec_in, key_in, HeldAt};
-ghost use Rattle.machine_steps.specs.Init.{LabelFine};
+ghost use Rattle.machine_steps.specs.LabelFine.{LabelFine};
 ghost use Rattle.records.specs.Opening.{new_label};
 
 use crate::open::Times;

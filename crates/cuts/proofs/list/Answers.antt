@@ -1,6 +1,6 @@
 -- What is read is the start of the input, whose list is the input's.
 use Rattle.std.proofs.Common.{rules, arith}
-use Rattle.cutter.specs.TextLaws.{run-within}
+use Rattle.cutter.proofs.TextLaws.{run-within}
 use Rattle.cuts.proofs.Start.{list_of}
 use Rattle.cuts.proofs.list.Goals as goal
 

@@ -8,9 +8,10 @@ use borrow.Author.Rules.{rules}
 use borrow.Author.Tests.{le-leb, lt-leb}
 use Rattle.machine.specs.Refusals.{refusal}
 use Rattle.planner.specs.Plan.{words, plan_of}
-use Rattle.planner.specs.FormLaws.{planned, plannable, length-planned, plannable-facts}
-use Rattle.planner.specs.WordsLaws.{length-words}
-use Rattle.planner.specs.PlanLaws.{plan-is}
+use Rattle.planner.proofs.FormLaws.{length-planned, plannable-facts}
+use Rattle.planner.specs.Form.{planned, plannable}
+use Rattle.planner.proofs.WordsLaws.{length-words}
+use Rattle.planner.proofs.PlanLaws.{plan-is}
 use Rattle.planner.proofs.plan.Goals as goal
 
 pub returns-then-out-lt-ROOM : goal.returns-then-out-lt-ROOM

@@ -7,8 +7,8 @@ use Rattle.octets.specs.PartsLaws.{put-nil, length-put}
 use Rattle.octets.specs.NumbersLaws.{length-be}
 use Rattle.packet.specs.Frame.{largest_piece}
 use Rattle.planner.specs.Plan.{words}
-use Rattle.planner.specs.FormLaws.{planned}
-use Rattle.planner.specs.WordsLaws.{write-more}
+use Rattle.planner.specs.Form.{planned}
+use Rattle.planner.proofs.WordsLaws.{write-more}
 use Rattle.planner.proofs.write_sizes.Goals as goal
 
 pub loop-i-init : goal.loop-i-init

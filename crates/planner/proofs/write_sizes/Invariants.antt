@@ -5,7 +5,7 @@ use lib.ListN.{length}
 use Rattle.octets.specs.Octets.{put}
 use Rattle.packet.specs.Frame.{largest_piece}
 use Rattle.planner.specs.Plan.{words}
-use Rattle.planner.specs.FormLaws.{planned}
+use Rattle.planner.specs.Form.{planned}
 use Rattle.planner.proofs.write_sizes.Given as goal
 
 abbrev pub invariant-loop-i : goal.invariant-loop-i

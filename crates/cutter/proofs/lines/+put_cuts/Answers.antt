@@ -2,8 +2,8 @@
 -- Assumes nothing.
 use Rattle.std.proofs.Common.{◌≤◌, arith, refl, sym}
 use lib.Seq.{length-take-le}
-use Rattle.cutter.specs.FrontsLaws.{size-range, wrote_as, growing-none, room-line, front-short, longer-within}
-use Rattle.cutter.specs.FrontsLaws.{room-first, room-second, wrote-last, wrote-both}
+use Rattle.cutter.proofs.FrontsLaws.{size-range, wrote_as, growing-none, room-line, front-short, longer-within}
+use Rattle.cutter.proofs.FrontsLaws.{room-first, room-second, wrote-last, wrote-both}
 use Rattle.cutter.proofs.lines.+put_cuts.Goals as goal
 
 pub put_behind-requires : goal.put_behind-requires

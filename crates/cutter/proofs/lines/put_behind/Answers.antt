@@ -3,7 +3,7 @@ use native.Mathlib.Omega.{arith}
 use mathlib.Core.Path.{refl}
 use lib.ListN.{length-append}
 use Rattle.cutter.specs.Text.{item}
-use Rattle.cutter.specs.FrontsLaws.{wrote_then}
+use Rattle.cutter.proofs.FrontsLaws.{wrote_then}
 use Rattle.cutter.proofs.lines.put_behind.Goals as goal
 
 pub copy_in-requires : goal.copy_in-requires

@@ -1,6 +1,6 @@
 -- Three digits or four, by their law. Assumes nothing.
 use native.Mathlib.Omega.{arith}
-use Rattle.cutter.specs.FrontsLaws.{length_three, length-four, wrote-three, wrote-four}
+use Rattle.cutter.proofs.FrontsLaws.{length_three, length-four, wrote-three, wrote-four}
 use Rattle.cutter.proofs.lines.put_item.Goals as goal
 
 pub copy_in-requires : goal.copy_in-requires

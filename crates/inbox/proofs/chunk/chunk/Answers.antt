@@ -11,7 +11,7 @@ use Rattle.machine.specs.Values.{Rec}
 use Rattle.machine.specs.Layout.{decode}
 use Rattle.machine.specs.Receive.{found}
 use Rattle.machine.specs.Refusals.{Refusals, refusal, asks_of}
-use Rattle.machine_steps.specs.Refusals.{refusal-clear}
+use Rattle.machine_steps.proofs.Refusals.{refusal-clear}
 use Rattle.records.specs.HeldAt.{met_at, rec_in, HeldAt}
 use Rattle.records.specs.RefuseLaws.{front-stop, front-next, refused, done}
 use Rattle.records.specs.SearchLaws.{Search, ended, asks-met, number_is, passed, held-here, held-key}

@@ -2,7 +2,7 @@
 use mathlib.Core.Path.{refl, sym, ◌∙◌}
 use Rattle.octets.specs.BoolsLaws.{both}
 use Rattle.machine.specs.Codes.{role_receive}
-use Rattle.machine_steps.specs.Refusals.{refusal-clear}
+use Rattle.machine_steps.proofs.Refusals.{refusal-clear}
 use Rattle.records.specs.RefuseLaws.{refused, done}
 use Rattle.records.specs.SearchLaws.{Search, ended, number_is, passed, held-here, held-key}
 use Rattle.inbox.proofs.done.done.Goals as goal

@@ -11,9 +11,9 @@ use Rattle.machine.specs.Layout.{rec_of, decode}
 use Rattle.machine.specs.Receive.{rec_label, found}
 use Rattle.machine.specs.Refusals.{Refusals, refusal}
 use Rattle.machine.specs.Packet.{rules_row, place_row}
-use Rattle.machine_steps.specs.Find.{is_none}
-use Rattle.machine_steps.specs.Init.{LabelFine}
-use Rattle.machine_steps.specs.Refusals.{Clear, refusal-clear}
+use Rattle.machine_steps.proofs.Find.{is_none}
+use Rattle.machine_steps.specs.LabelFine.{LabelFine}
+use Rattle.machine_steps.proofs.Refusals.{Clear, refusal-clear}
 use Rattle.machine_writes.specs.InRange.{links}
 use Rattle.machine_laws.specs.SoundValid.{sound-valid}
 use Rattle.records.specs.HeldAt.{met_at, rec_in}

@@ -10,7 +10,7 @@ use Rattle.packet.specs.Frame.{kind_of, needed, is_enough}
 use Rattle.packet.specs.FieldsLaws.{header-needed}
 use Rattle.machine.specs.Refusals.{Refusals, refusal}
 use Rattle.machine.specs.Packet.{Packet, kind, is_kind, kind_wake, reply_bytes, packet_row, packet_of, arrival}
-use Rattle.machine_steps.specs.Frames.{reply-came}
+use Rattle.machine_steps.proofs.Frames.{reply-came}
 use Rattle.records.specs.RefuseLaws.{next}
 use Rattle.message.specs.Both.{both_of, reply_out}
 use Rattle.message.proofs.Packets.{step-out, done-out}

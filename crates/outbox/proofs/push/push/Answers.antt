@@ -16,8 +16,8 @@ use Rattle.machine.specs.Layout.{number_limit, decode}
 use Rattle.machine.specs.Refusals.{Refusals, refusal}
 use Rattle.machine.specs.Push.{push_room, push_tests}
 use Rattle.machine.specs.Send.{init_out}
-use Rattle.machine_steps.specs.Find.{is_none}
-use Rattle.machine_steps.specs.Refusals.{Clear, refusal-clear}
+use Rattle.machine_steps.proofs.Find.{is_none}
+use Rattle.machine_steps.proofs.Refusals.{Clear, refusal-clear}
 use Rattle.records.specs.Opening.{new_label}
 use Rattle.outbox.specs.Pushing.{pushes}
 use Rattle.outbox.proofs.push.push.Goals as goal

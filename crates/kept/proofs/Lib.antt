@@ -1,0 +1,5 @@
+pub mod KeepsLaws
+pub mod FramesLaws
+pub mod RecordLaws
+pub mod ExactlyLaws
+pub mod WorkedLaws

@@ -1,5 +1,6 @@
 -- Laws of four chunks: the node over them, and the value of a chunk from the value before its last block. Assumes nothing.
-use Rattle.std.proofs.Common.{◌≡◌, ℕ, zero, suc, ◌+◌, ◌-◌, ◌*◌, ◌/◌, ◌<◌, ◌≤◌, List, length, take, drop, sym, refl, ap, ◌∙◌, le_of_eq, le_of_lt, arith, length-drop, length-take-le, take_all, get_or-take, take-take, drop-drop, take-add, drop_at}
+use Rattle.std.proofs.Common.{◌≡◌, ℕ, zero, suc, ◌+◌, ◌-◌, ◌*◌, ◌/◌, ◌<◌, ◌≤◌, List, length, take, drop, sym, refl, ap, ◌∙◌, le_of_eq, le_of_lt, arith}
+use Rattle.std.proofs.Common.{length-drop, length-take-le, take_all, get_or-take, take-take, drop-drop, take-add, drop_at}
 use lib.Bits.{bit_or}
 use Rattle.blake3.specs.Compression.{chaining}
 use Rattle.blake3.specs.Tree.{block_len, chunk_len, chunk_end, word_at, block_at, flags_at, before, last_node, chunk_node, parent_node, node}

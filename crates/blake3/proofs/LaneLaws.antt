@@ -1,5 +1,6 @@
 -- Laws of lanes: what is put into one is there, and the others stay; so a loop that puts one lane after the other leaves all of them. Assumes nothing.
-use Rattle.std.proofs.Common.{◌≡◌, ℕ, zero, suc, ◌+◌, ◌*◌, ◌<◌, ◌≤◌, List, ◌∷◌, length, set, sym, refl, ap, ◌∙◌, subst, ⊎_elim, le_of_suc-le-suc, not-suc-le-zero, eq-or-lt_of_le, add-one, arith, length-set, get_or-set_other, get_or-set_same}
+use Rattle.std.proofs.Common.{◌≡◌, ℕ, zero, suc, ◌+◌, ◌*◌, ◌<◌, ◌≤◌, List, ◌∷◌, length, set, sym, refl, ap, ◌∙◌, subst, ⊎_elim, le_of_suc-le-suc}
+use Rattle.std.proofs.Common.{not-suc-le-zero, eq-or-lt_of_le, add-one, arith, length-set, get_or-set_other, get_or-set_same}
 use Rattle.blake3.specs.Words.{word, table}
 use Rattle.blake3.specs.Lanes.{in_lane, lane, put_lane, Lanes, Each}
 use Rattle.blake3.proofs.Laws.{listed}

@@ -38,7 +38,8 @@ fn lines<R: Read + Drop>(alloc: Global, input: R, text: &mut [u8; TEXT]) -> io::
 
 // Writes the lines for an input.
 pub fn run<R: Read + Drop, W: Write>(alloc: Global, input: R, out: &mut W) -> io::Result<()>
-    ensures { OnOk result (IfSome (R.remaining input) (λ all. Appends (W.contents out.old) (W.contents out.new) (classroom_of all))) }
+    ensures { OnOk result (IfSome (R.remaining input) (λ all.
+        Appends (W.contents out.old) (W.contents out.new) (classroom_of all))) }
 {
     let mut text = [0u8; TEXT];
     let end = lines(alloc, input, &mut text)?;

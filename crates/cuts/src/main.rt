@@ -37,7 +37,8 @@ fn list<R: Read + Drop>(alloc: Global, input: R, text: &mut [u8; TEXT]) -> io::R
 
 // Writes the list that an input asks for.
 pub fn run<R: Read + Drop, W: Write>(alloc: Global, input: R, out: &mut W) -> io::Result<()>
-    ensures { OnOk result (IfSome (R.remaining input) (λ all. Appends (W.contents out.old) (W.contents out.new) (cuts_text all))) }
+    ensures { OnOk result (IfSome (R.remaining input) (λ all.
+        Appends (W.contents out.old) (W.contents out.new) (cuts_text all))) }
 {
     let mut text = [0u8; TEXT];
     let end = list(alloc, input, &mut text)?;

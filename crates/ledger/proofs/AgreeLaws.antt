@@ -131,7 +131,8 @@ module _ (s : Store) (b : Book) (u : Unique same_key rec_key s.held) (a : Agree 
       cases (equal_in_five g.label h) (λ z. rw (both, z) a) (λ z. rw (both, z) (afresh-keeps h (some r) e))
 
   -- a record found by a key has that key
-  chunk-keeps : (k : Key) (q : Piece) (o : Option Rec) (m : Option Page) → found k s.held ≡ o → Tied o m → Agree (chunk_at o q.index q.bytes s) (chunk_in m k q b)
+  chunk-keeps : (k : Key) (q : Piece) (o : Option Rec) (m : Option Page) → found k s.held ≡ o → Tied o m
+      → Agree (chunk_at o q.index q.bytes s) (chunk_in m k q b)
   unfolding chunk_at chunk_in
   chunk-keeps k q none none e t = a
   chunk-keeps k q none (some g) e t = absurd t

@@ -62,7 +62,8 @@ module _ (s : Stores) (l : Ledger) (h : Holds s l) where
         (done-iff (found (asked p) (decode s.recv).held) (l.book.pages (asked p)) (done_count p.frame) (done_sum p.frame) (yes p.known)
         (found-rises (asked p)) (h.book.paged (asked p)));
     take_none = λ taken out i. rw (take-answer s.recv taken out (recv-sound i)) (none-iff (decode s.recv).whole l.book.row taken out h.book.rowed);
-    take_one = λ taken out g t i e a b. take-answer s.recv taken out (recv-sound i) ∙ one-taken (decode s.recv).whole l.book.row taken out g t h.book.rowed e a b;
+    take_one = λ taken out g t i e a b. take-answer s.recv taken out (recv-sound i)
+        ∙ one-taken (decode s.recv).whole l.book.row taken out g t h.book.rowed e a b;
     take_gives = λ taken out e.
         let n : refusal (take_row s.recv taken out) ≡ 0 = sym (take-number s.recv taken out) ∙ e in
         rw n (taken-given l.recv_role s.recv h.recv (decode s.recv).whole l.book.row taken out refl h.book.rowed

@@ -123,8 +123,10 @@ mixed = init 3 ∷ chunk 0 0 old ∷ another 3 ∷ done 1 new ∷ chunk 0 0 old 
 
 mixed-numbers : numbers (map heard mixed) (fresh role_receive 2) sender ≡ 0 ∷ 0 ∷ 0 ∷ 14 ∷ 0 ∷ 16 ∷ 0 ∷ 0 ∷ 8 ∷ []
 unfolding numbers old new id topic init another chunk done address part be num same add rotr half mix step round rounds start
-    compress chaining root_block word_at block_at flags_at before last_node chunk_node parent_node level node bytes output_blocks output sum_by plain blake3 kind_of header chunk_packet
-    done_packet same_key equal_in_five rise sizes find swap without refusal put_piece joined init_at chunk_at done_at kind_row recv_step send_step too_short cells_from
+    compress chaining root_block word_at block_at flags_at before last_node chunk_node parent_node level node bytes output_blocks output sum_by plain
+    blake3 kind_of header chunk_packet
+    done_packet same_key equal_in_five rise sizes find swap without refusal put_piece joined init_at chunk_at done_at kind_row recv_step send_step
+    too_short cells_from
 mixed-numbers = refl
 
 -- a survey of two pieces, its packets lost, repeated and out of order, its init late once more; and what comes when it is whole

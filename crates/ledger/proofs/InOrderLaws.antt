@@ -21,7 +21,8 @@ use Rattle.ledger.proofs.DemandLaws.{holds-demand}
 -- the page of a done goes last in the row, and nothing else does
 pub row-finished : (k : Kind) (p : Packet) (b : Book) (m : Option Page) → b.pages (asked p) ≡ m → (packet_in k p b).row ≡ b.row ++ finished k m
 unfolding packet_in init_in chunk_in done_in
-row-finished Init p b m e = cases (repeats page_label (b.pages (asked p)) (init_label p)) (λ z. rw z (sym (append-nil b.row))) (λ z. rw z (sym (append-nil b.row)))
+row-finished Init p b m e = cases (repeats page_label (b.pages (asked p)) (init_label p)) (λ z. rw z (sym (append-nil b.row)))
+    (λ z. rw z (sym (append-nil b.row)))
 row-finished Chunk p b none e = rw e (sym (append-nil b.row))
 row-finished Chunk p b (some g) e = rw e (sym (append-nil b.row))
 row-finished Done p b none e = rw e (sym (append-nil b.row))

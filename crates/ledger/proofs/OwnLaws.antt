@@ -224,7 +224,8 @@ unfolding pick ledger made_from
 own-run k [] l m whole part s = s
 own-run k (c ∷ t) l m whole part s =
     rw (among_next (concerns k) c t m, made-next (concerns k) c t m part)
-    (own-run k t (cond (eqb c.1 0) (enter c.0 l) l) (entered (concerns k) c m) (cond (eqb c.1 0) (made_by c.0 l.book whole) whole) (made_of (concerns k) c m part)
+    (own-run k t (cond (eqb c.1 0) (enter c.0 l) l) (entered (concerns k) c m) (cond (eqb c.1 0) (made_by c.0 l.book whole) whole)
+    (made_of (concerns k) c m part)
     (cases (eqb c.1 0) (λ z. rw z (own-enter k l m whole part s c.0)) (λ z. rw z s)))
 
 -- ---- the theorems
@@ -248,7 +249,8 @@ since-init p out t l m e x y =
     page-run (asked p) t (enter (packet p out) l) (enter (packet p out) m) (opened-page p out l e x ∙ sym (opened-page p out m e y))
 
 -- .. and the message that its done makes of the page goes last in the row, the same whatever came before the init
-pub since-init-made : (p q : Packet) (out room : List ℕ) (t : List (Call × ℕ)) (l m : Ledger) (g : Page) → kind p ≡ Init → opens p l ≡ true → opens p m ≡ true → kind q ≡ Done → asked q ≡ asked p
+pub since-init-made : (p q : Packet) (out room : List ℕ) (t : List (Call × ℕ)) (l m : Ledger) (g : Page) → kind p ≡ Init → opens p l ≡ true → opens p m ≡ true
+    → kind q ≡ Done → asked q ≡ asked p
     → (ledger ((packet p out, 0) ∷ t) l).book.pages (asked p) ≡ some g
     → ((enter (packet q room) (ledger ((packet p out, 0) ∷ t) l)).book.row ≡ (ledger ((packet p out, 0) ∷ t) l).book.row ++ (g ∷ []))
     × ((enter (packet q room) (ledger ((packet p out, 0) ∷ only (asked p) t) m)).book.row

@@ -20,7 +20,8 @@ number_is : {O : Type 0} (number : O → ℕ) (done kept : O) (n : ℕ) → numb
 number_is number done kept n z e = cases (eqb n 0) (λ h. rw h (z ∙ sym (eqb-true n 0 h))) (λ h. rw h e)
 
 module _ (store : List ℕ) (role : ℕ) where
-  pub setup-refused : ((setup_of store role).answer.number ≡ 0 → ⊥) → setup_of store role ≡ record { answer = bare (setup_of store role).answer.number; store = store }
+  pub setup-refused : ((setup_of store role).answer.number ≡ 0 → ⊥) → setup_of store role
+      ≡ record { answer = bare (setup_of store role).answer.number; store = store }
   unfolding setup_of
   setup-refused h = cases (allowed (length store) role) (λ e. absurd (h (rw e))) (λ e. rw e)
 
@@ -49,7 +50,8 @@ module _ (w : Wake) (send out : List ℕ) where
   wake-refused h = rw (ne_eqb (refusal (wake_row w send out)) 0 (λ e. h (wake-number ∙ e)))
 
 module _ (send id out : List ℕ) where
-  pub report-refused : ((report_of send id out).answer.number ≡ 0 → ⊥) → report_of send id out ≡ record { answer = bare (report_of send id out).answer.number; out = out }
+  pub report-refused : ((report_of send id out).answer.number ≡ 0 → ⊥) → report_of send id out
+      ≡ record { answer = bare (report_of send id out).answer.number; out = out }
   unfolding report_of
   report-refused h = rw (ne_eqb (refusal (report_row send id out)) 0 h)
 

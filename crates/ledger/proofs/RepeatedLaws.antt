@@ -17,7 +17,8 @@ use Rattle.machine.specs.Layout.{decode}
 use Rattle.machine.specs.Valid.{Valid}
 use Rattle.machine.specs.Refusals.{refusal}
 use Rattle.machine.specs.Receive.{rec_label, rec_key, found}
-use Rattle.machine.specs.Packet.{Packet, kind, asked, is_reply, init_label, rules_row, init_row, recv_step, send_step, replied, kind_wake, packet_row, packet_answer}
+use Rattle.machine.specs.Packet.{Packet, kind, asked, is_reply, init_label, rules_row, init_row, recv_step, send_step, replied, kind_wake, packet_row}
+use Rattle.machine.specs.Packet.{packet_answer}
 use Rattle.machine_laws.specs.Keys.{key-eq, key-refl, five-eq}
 use Rattle.machine_laws.specs.SoundValid.{sound-valid}
 use Rattle.machine_steps.proofs.Find.{find-key}
@@ -34,7 +35,8 @@ equal-init-row p s r v e q =
     let absent : found (asked p) s.whole ≡ none =
     unique-apart same_key rec_key key-eq key-refl (asked p) r s.held s.whole (distinct-unique (s.held ++ s.whole) v.ids) e in
     let total : r.label.total ≡ init_length p.frame = ap (λ (h : Label). h.total) (five-eq r.label (init_label p) (sym named) q) in
-    let short : leb (init_length p.frame) longest ≡ true = le-leb (init_length p.frame) longest (omega (arith, total, (held-fine role_receive (asked p) r s e v).total)) in
+    let short : leb (init_length p.frame) longest
+    ≡ true = le-leb (init_length p.frame) longest (omega (arith, total, (held-fine role_receive (asked p) r s e v).total)) in
     cases (is_reply p || well_formed p.rules)
     (λ a. cases (is_reply p || admits p.rules (init_topic p.frame) p.from) (λ b. rw (a, b, absent, short, e)) (λ b. rw (a, b)))
     (λ a. rw a)

@@ -27,7 +27,8 @@ mixed-steps : (hear (chunk 0 0 old) (hear (init 3) opened) ≡ m2) × (hear (don
     × (hear (done 1 new) (hear (chunk 0 0 old) m4) ≡ m6) × (hear (done 1 new) (hear (chunk 0 0 new) m6) ≡ m8) × (hear (done 1 new) m8 ≡ m9)
 unfolding old new one m2 m4 m6 m8 m9 id topic init another chunk done address hear opened survey_of arriving finished part be num same add rotr half mix
     step round rounds start compress chaining root_block word_at block_at flags_at before last_node chunk_node parent_node level
-    node bytes output_blocks output sum_by plain blake3 kind_of header chunk_packet done_packet same_key equal_in_five rise sizes find swap without refusal put_piece joined init_at chunk_at done_at drop_at
+    node bytes output_blocks output sum_by plain blake3 kind_of header chunk_packet done_packet same_key equal_in_five rise sizes find swap without
+    refusal put_piece joined init_at chunk_at done_at drop_at
     kind_row recv_step too_short cells_from
 mixed-steps = (refl, refl, refl, refl, refl)
 

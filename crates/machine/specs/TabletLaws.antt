@@ -184,7 +184,8 @@ pub tablet-starts : (pushes survey (fresh role_send 3) ≡ answers 0 0 (sends (i
     × (reports (pushed state_init) ≡ says state_init 0 0 0) × (hears (ack_chunk 0) (pushed state_init) ≡ refuses wrong_state (pushed state_init))
     × (hears ack_init (pushed state_init) ≡ answers 1 0 [] (pushed state_in_progress)) × (hears ack_init (pushed state_in_progress) ≡ refuses wrong_state (pushed state_in_progress))
 unfolding office topic piece0 piece1 survey id address ack_init ack_chunk pushes hears wakes reports part be num same header kind_of same_key
-    rise find swap without refusal cut_pieces change_at push_step only by_stamp sent_pieces chunks_out wake_out woken kind_row send_step kind_wake wake_run wake_pieces wake_step wakes-with wakes-at hours
+    rise find swap without refusal cut_pieces change_at push_step only by_stamp sent_pieces chunks_out wake_out woken kind_row send_step kind_wake wake_run wake_pieces wake_step wakes-with
+    wakes-at hours
     always well_formed is_open every counted times reported capacity
 tablet-starts = (refl, refl, refl, refl, refl, refl)
 
@@ -206,7 +207,8 @@ pub tablet-ends : (wakes send_wake 1200 (acked state_in_progress) ≡ answers 0 
     × (wakes send_wake 1300 (acked state_received) ≡ answers 0 0 [] (acked state_received)) × (hears read (acked state_received) ≡ answers 0 0 [] (acked state_read))
     × (reports (acked state_read) ≡ says state_read 0 0 0)
 unfolding office topic piece0 piece1 id address ack_done read hears wakes reports part be num same header kind_of same_key rise find swap
-    without refusal change_at only insert by_stamp sent_pieces chunks_out wake_out woken kind_row send_step kind_wake wake_run wake_pieces wake_step wakes-with wakes-at hours always well_formed is_open
+    without refusal change_at only insert by_stamp sent_pieces chunks_out wake_out woken kind_row send_step kind_wake wake_run wake_pieces wake_step wakes-with wakes-at hours always
+    well_formed is_open
     every counted times reported joined
 tablet-ends = (refl, refl, refl, refl, refl, refl)
 

@@ -19,7 +19,8 @@ use Rattle.packet.specs.Frame.{has, reply_flag, ack_flag, kind_of, id_of, flags_
 use Rattle.packet.specs.Frame.{largest_frame, is_frame, needed, is_enough}
 use Rattle.packet.specs.FieldsLaws.{header-needed}
 use Rattle.packet.specs.Outgoing.{entry, reply_packet}
-use Rattle.machine.specs.Codes.{role_receive, role_send, state_init, state_in_progress, state_received, state_read, bad_frame, short_frame, no_work, short_output}
+use Rattle.machine.specs.Codes.{role_receive, role_send, state_init, state_in_progress, state_received, state_read, bad_frame, short_frame, no_work}
+use Rattle.machine.specs.Codes.{short_output}
 use Rattle.machine.specs.Codes.{unsound_store, yes}
 use Rattle.machine.specs.Values.{Store}
 use Rattle.machine.specs.Layout.{encode, decode}
@@ -101,7 +102,8 @@ module _ (p : Packet) (g : List ℕ) where
     row-longer Chunk recv send h =
         λ i. chunk_row (number-longer f g 12 8 (omega arith) i) (number-longer f g 20 8 (omega arith) i) (size-longer f g (omega arith) i) recv
         (found (id i) recv.held)
-    row-longer Done recv send h = λ i. done_row (number-longer f g 12 8 (omega arith) i) (part-longer f g 20 32 (omega arith) i) (yes p.known) (found (id i) recv.held)
+    row-longer Done recv send h = λ i. done_row (number-longer f g 12 8 (omega arith) i) (part-longer f g 20 32 (omega arith) i) (yes p.known)
+        (found (id i) recv.held)
     row-longer Read recv send h = λ i. state_row state_received (found (id i) send.held)
     row-longer Aborted recv send h = λ i. held_row (found (id i) recv.held)
     row-longer AckInit recv send h = λ i. state_row state_init (found (id i) send.held)
@@ -182,12 +184,15 @@ module _ (p : Packet) (g recv send out : List ℕ) where
       let more = length-append f g in
       let kinds : kind (longer p g) ≡ k = ap kind_of (flags-longer f g least) in
       let framed : is_frame (f ++ g) ≡ is_frame f =
-      w ∙ sym (both (leb 1 (length f)) (leb (length f) largest_frame) (le-leb 1 (length f) (omega (arith, least))) (le-leb (length f) largest_frame (omega (arith, most, more)))) in
+      w ∙ sym (both (leb 1 (length f)) (leb (length f) largest_frame) (le-leb 1 (length f) (omega (arith, least)))
+      (le-leb (length f) largest_frame (omega (arith, most, more)))) in
       let enough : is_enough k (f ++ g) ≡ is_enough k f =
       le-leb (needed k (f ++ g)) (length (f ++ g)) (omega (arith, needed-longer f g k h, h, more)) ∙ sym e in
       (λ i. let j = kinds i in
-      leaves (is_frame (f ++ g)) (is_enough j (f ++ g)) j (kind_row j (longer p g) R S) (recv_step j (longer p g) R) (send_step j (longer p g) S) (kind_out j (longer p g)))
-      ∙ (λ i. leaves (framed i) (enough i) k (row-longer p g least k R S h i) (recv-longer p g least k R h i) (send-longer p g least k S h i) (out-longer p g least k h i))
+      leaves (is_frame (f ++ g)) (is_enough j (f ++ g)) j (kind_row j (longer p g) R S) (recv_step j (longer p g) R) (send_step j (longer p g) S)
+      (kind_out j (longer p g)))
+      ∙ (λ i. leaves (framed i) (enough i) k (row-longer p g least k R S h i) (recv-longer p g least k R h i) (send-longer p g least k S h i)
+      (out-longer p g least k h i))
 
   -- filled up with zeros
   pub filled-same : is_frame p.frame ≡ true → is_enough (kind p) p.frame ≡ true → g ≡ replicate (largest_frame - length p.frame) 0

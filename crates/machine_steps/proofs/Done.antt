@@ -57,7 +57,8 @@ done-valid k r s e c v =
           (unique-last same_key rec_key key-eq key-refl r l (absent-without same_key rec_key key-eq key-refl (rec_key r) (s.held ++ s.whole) d)
           (unique-without same_key rec_key key-eq key-refl (rec_key r) (s.held ++ s.whole) d));
       sized = rw (← u)
-          (all_join RecSized l (r ∷ []) (all_without same_key rec_key RecSized (rec_key r) (s.held ++ s.whole) v.sized) (held-sized role_receive k r s e v, tt));
+          (all_join RecSized l (r ∷ []) (all_without same_key rec_key RecSized (rec_key r) (s.held ++ s.whole) v.sized)
+          (held-sized role_receive k r s e v, tt));
       sources = λ o a.
           let whole = total-append (cells_from a) s.whole (r ∷ []) in
           omega (arith, total-without same_key rec_key (cells_from a) (rec_key r) r s.held h, whole, held-from a s, v.sources o a);

@@ -47,7 +47,15 @@ module _ (w : Wake) (s : sends w ≡ true) (h : in_hours w ≡ false) where
       cases (eqb (refusal (wake_row w send out)) 0)
       (λ e. let n = eqb-true (refusal (wake_row w send out)) 0 e in
       let t : sound role_send send ≡ true = (refusal-front ((sound role_send send, unsound_store) ∷ []) _ refl n).0.0 in
-      rw (e, silent (found w.id (decode send).held), none-sent (found w.id (decode send).held), still (decode send), (sound-valid role_send send b t).1, put-nil out 0, n))
+      rw (
+        e,
+        silent (found w.id (decode send).held),
+        none-sent (found w.id (decode send).held),
+        still (decode send),
+        (sound-valid role_send send b t).1,
+        put-nil out 0,
+        n,
+      ))
       (λ e. rw e)
 
 -- ---- the wake without hours: it is given neither a calendar nor Unix milliseconds

@@ -19,7 +19,8 @@ unfolding distinct
 distinct-unique [] h = tt
 distinct-unique (r ∷ l) h =
     let s = split (all (unlike r) l) (distinct l) h in (
-      all-to (λ (q : Rec). unlike r q ≡ true) (Differs same_key rec_key (rec_key r)) l (λ q e. not-true (same_key (rec_key r) (rec_key q)) e) (all_true (unlike r) l s.0),
+      all-to (λ (q : Rec). unlike r q ≡ true) (Differs same_key rec_key (rec_key r)) l (λ q e. not-true (same_key (rec_key r) (rec_key q)) e)
+          (all_true (unlike r) l s.0),
       distinct-unique l s.1,
     )
 

@@ -1,7 +1,8 @@
 -- Laws of the line: a piece that comes to the pieces passed so far takes its place among those that want sending. Assumes nothing.
 use Rattle.std.specs.Prelude.{ℕ, zero, suc, ◌+◌, ◌≤◌, ◌<◌, min, ◌≡◌, refl, Bool, true, false, cond, List, [], ◌∷◌, ◌++◌, map, length, take, drop, replicate, eqb, leb, ltb}
 use Rattle.std.proofs.Math.Nat.{min-zero, suc-min-suc}
-use Rattle.std.proofs.Common.{arith, sym, ap, ◌∙◌, subst, append-nil, append_assoc, length-append, length-take, take-append-drop, take-take, take_all, take_at, eqb-true, ne_eqb, leb-true, leb-false, ltb-true, ltb-false, lt-ltb, le-ltb}
+use Rattle.std.proofs.Common.{arith, sym, ap, ◌∙◌, subst, append-nil, append_assoc, length-append, length-take, take-append-drop, take-take, take_all, take_at, eqb-true, ne_eqb, leb-true, leb-false}
+use Rattle.std.proofs.Common.{ltb-true, ltb-false, lt-ltb, le-ltb}
 use Rattle.std.proofs.lemmas.List.{length-replicate}
 use Rattle.std.proofs.lemmas.Bool.{lt-leb}
 use Rattle.octets.specs.BoolsLaws.{cases, clash, split}

@@ -117,7 +117,8 @@ module _ (b : List ℕ) (y : Bytes b) (h : Label) (bytes : List ℕ) (g : Pushab
           let m : List ℕ = cut_of b bytes in
           let row : new_rec q h created end (pieces_of b bytes) ≡ new =
           ap (λ (n : ℕ). record { place = q; label = h; slots = slots_of n; sending = new.sending; cells = pieces_of b bytes }) g.total in
-          (λ i. put (put m (rec_off (at i)) (rec_row kind_leaving (cut-byte held_at (omega arith) i) (new_rec (at i) h created end (pieces_of b bytes)))) free_at (get_or m (rec_off (at i)) 0 ∷ at i ∷ []))
+          (λ i. put (put m (rec_off (at i)) (rec_row kind_leaving (cut-byte held_at (omega arith) i) (new_rec (at i) h created end (pieces_of b bytes)))) free_at
+          (get_or m (rec_off (at i)) 0 ∷ at i ∷ []))
           ∙ (λ i. put (put m (rec_off q) (rec_row (sym (ap held_kind v.in_role) i) (first (map rec_place s.held)) (row i))) free_at (behind i ∷ q ∷ []))
           ∙ Encodes.push-encode role_send b y g.sound q qs is new refl (leaving-sized q h created end bytes s.free_cells g.fine z c e) (spare_of b bytes) parts
           (subst (Valid role_send) with-new (pushed-valid h created end bytes s g.held g.free g.cells g.fine g.total z c e v))

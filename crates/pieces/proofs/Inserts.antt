@@ -27,7 +27,8 @@ grow-written b b1 at k i x slots q y n e =
 pub holds-none : (b : List ℕ) (at i x : ℕ) → x ≡ get_or b at 0 → x ≡ 0 → false ≡ holds_index b at i
 holds-none b at i x q z = rw (sym q ∙ z)
 
-pub holds-some : (b : List ℕ) (at i x cell y : ℕ) → x ≡ get_or b at 0 → (x ≡ 0 → ⊥) → cell ≡ cell_off x → y ≡ get_or b (cell + 1) 0 → eqb i y ≡ holds_index b at i
+pub holds-some : (b : List ℕ) (at i x cell y : ℕ) → x ≡ get_or b at 0 → (x ≡ 0 → ⊥) → cell ≡ cell_off x → y ≡ get_or b (cell + 1) 0 → eqb i y
+    ≡ holds_index b at i
 holds-some b at i x cell y q z c e =
     let none : eqb (get_or b at 0) 0 ≡ false = ne_eqb (get_or b at 0) 0 (λ o. z (q ∙ o)) in
     ap (eqb i) (e ∙ (λ t. get_or b (c t + 1) 0) ∙ ap (λ (k : ℕ). get_or b (cell_off k + 1) 0) q)
@@ -43,12 +44,14 @@ holds-cell b at i l k h =
 -- ---- a new piece
 
 pub insert-written : (b b1 b2 b3 b4 : List ℕ) (cell at k link i : ℕ) (bytes : List ℕ) → cell ≡ get_or b 3 0 → at ≡ cell_off cell → b1 ≡ grown b k i
-    → b2 ≡ put b1 (cell_off cell) (cell_row (get_or b link 0) (new_cell cell i bytes)) → b3 ≡ put b2 3 (get_or b at 0 ∷ []) → b4 ≡ put b3 link (get_or b 3 0 ∷ [])
+    → b2 ≡ put b1 (cell_off cell) (cell_row (get_or b link 0) (new_cell cell i bytes)) → b3 ≡ put b2 3 (get_or b at 0 ∷ []) → b4
+    ≡ put b3 link (get_or b 3 0 ∷ [])
     → b4 ≡ inserted b k link i bytes
 unfolding inserted
 insert-written b b1 b2 b3 b4 cell at k link i bytes q a e1 e2 e3 e4 =
     e4 ∙ ap (λ (x : List ℕ). put x link (get_or b 3 0 ∷ []))
-    (e3 ∙ ap (λ (x : List ℕ). put x 3 (get_or b at 0 ∷ [])) (e2 ∙ ap (λ (x : List ℕ). put x (cell_off cell) (cell_row (get_or b link 0) (new_cell cell i bytes))) e1))
+    (e3 ∙ ap (λ (x : List ℕ). put x 3 (get_or b at 0 ∷ []))
+    (e2 ∙ ap (λ (x : List ℕ). put x (cell_off cell) (cell_row (get_or b link 0) (new_cell cell i bytes))) e1))
     ∙ (λ t. put (put (put (grown b k i) (cell_off (q t)) (cell_row (get_or b link 0) (new_cell (q t) i bytes))) 3 (get_or b ((a ∙ ap cell_off q) t) 0 ∷ []))
     link (get_or b 3 0 ∷ []))
 
@@ -59,10 +62,12 @@ module _ (b e : List ℕ) (link k i : ℕ) (bytes : List ℕ) (q : link ≡ spot
   unfolding chunked
   chunk-held cell h c w =
       w ∙ ap (λ (p : ℕ). rewritten b p bytes) (c ∙ ap (λ (o : ℕ). get_or b o 0) q)
-      ∙ ap (λ (t : Bool). cond t (rewritten b (get_or b (spot_in b k i) 0) bytes) (inserted b k (spot_in b k i) i bytes)) (h ∙ ap (λ (o : ℕ). holds_index b o i) q)
+      ∙ ap (λ (t : Bool). cond t (rewritten b (get_or b (spot_in b k i) 0) bytes) (inserted b k (spot_in b k i) i bytes))
+      (h ∙ ap (λ (o : ℕ). holds_index b o i) q)
 
   pub chunk-new : false ≡ holds_index b link i → e ≡ inserted b k link i bytes → e ≡ chunked b k i bytes
   unfolding chunked
   chunk-new h w =
       w ∙ ap (λ (o : ℕ). inserted b k o i bytes) q
-      ∙ ap (λ (t : Bool). cond t (rewritten b (get_or b (spot_in b k i) 0) bytes) (inserted b k (spot_in b k i) i bytes)) (h ∙ ap (λ (o : ℕ). holds_index b o i) q)
+      ∙ ap (λ (t : Bool). cond t (rewritten b (get_or b (spot_in b k i) 0) bytes) (inserted b k (spot_in b k i) i bytes))
+      (h ∙ ap (λ (o : ℕ). holds_index b o i) q)

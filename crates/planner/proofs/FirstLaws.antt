@@ -83,7 +83,8 @@ greater-fails test k y x t a b g m s =
     cases (test (x ∷ m)) (λ e. clash (rw (lt-ltb y x a)) (g (x ∷ m) (ap suc s.0, (b, s.1)) e)) (λ e. e)
 
 -- a first size from n down: of the greater ones none passes, and behind y the sizes are those of t
-first-from : (test : List ℕ → Bool) (k y : ℕ) (t : List ℕ) → Greatest test (suc k) (y ∷ t) → first_that test (map (λ (m : List ℕ). y ∷ m) (lists_of k)) ≡ some (y ∷ t)
+first-from : (test : List ℕ → Bool) (k y : ℕ) (t : List ℕ) → Greatest test (suc k) (y ∷ t) → first_that test (map (λ (m : List ℕ). y ∷ m) (lists_of k))
+    ≡ some (y ∷ t)
     → (n : ℕ) → y ≤ n → n ≤ largest_piece → first_that test (first_from n (lists_of k)) ≡ some (y ∷ t)
 unfolding first_from
 first-from test k y t g here zero a b = let z : y ≡ 0 = omega arith in ap (λ (x : ℕ). first_that test (map (λ (m : List ℕ). x ∷ m) (lists_of k))) (sym z) ∙ here

@@ -93,7 +93,12 @@ planned-greatest total k l s t = greatest k total l s.0 (keeps-facts total most_
 pub kept-plannable : (total k : ℕ) (l : List ℕ) → length l ≡ k → keeps total most_cells l ≡ true → plannable total k ≡ true
 kept-plannable total k l e h =
     let f = keeps-facts total most_cells l h in
-    rw (le-leb (slots_of total) k (omega (arith, f.slots)), le-leb k most_of_source (omega (arith, f.source)), le-leb k (suc (top_of total)) (omega (arith, f.tops)))
+    rw (
+      le-leb (slots_of total) k (omega (arith, f.slots)),
+      le-leb k most_of_source (omega (arith, f.source)),
+      le-leb k (suc (top_of total))
+          (omega (arith, f.tops)),
+    )
 
 pub planned-none : (total k : ℕ) → plannable total k ≡ false → (l : List ℕ) → length l ≡ k → keeps total most_cells l ≡ false
 planned-none total k h l e = cases (keeps total most_cells l) (λ t. clash (kept-plannable total k l e t) h) (λ t. t)

@@ -54,7 +54,8 @@ short-number total h = omega arith
 is-kept : (total : ℕ) (sizes : List ℕ) → total ≤ longest → is_kept total sizes ≡ keeps total most_cells sizes
 unfolding is_kept
 is-kept total sizes h =
-    kept-exactly planner planner-open most_cells 1 (omega arith) (omega arith) (omega arith) (omega arith) (replicate packet_room 0) (omega (arith, length-replicate {A = ℕ} packet_room 0))
+    kept-exactly planner planner-open most_cells 1 (omega arith) (omega arith) (omega arith) (omega arith) (replicate packet_room 0)
+    (omega (arith, length-replicate {A = ℕ} packet_room 0))
     total (short-number total h) (pieces_of sizes) (pieces-bytes sizes)
     ∙ ap (keeps total most_cells) (pieces-sizes sizes)
 
@@ -76,7 +77,8 @@ plan-is total k h =
 
 module _ (t : Sender) (o : Open t) (d : ℕ) (a : 1 ≤ d) (b : d ≤ most_cells) (out : List ℕ) (room : packet_room ≤ length out) (total k : ℕ)
     (h : total ≤ longest) where
-  abbrev kept : (pieces : List (List ℕ)) → All Bytes pieces → accepted (calls_of t total pieces out) (fresh_stores most_cells d) ≡ keeps total most_cells (map length pieces)
+  abbrev kept : (pieces : List (List ℕ)) → All Bytes pieces → accepted (calls_of t total pieces out) (fresh_stores most_cells d)
+      ≡ keeps total most_cells (map length pieces)
   kept = kept-exactly t o most_cells d (omega arith) (omega arith) a b out room total (short-number total h)
 
   -- a plan is for numbers of pieces that there are, and is the closed form

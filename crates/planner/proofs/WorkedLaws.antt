@@ -22,7 +22,8 @@ unfolding planned
 no_bytes = (plan-is 0 0 (omega arith), plan-is 0 1 (omega arith), plan-is 0 2 (omega arith))
 
 -- 30 pieces want a top of 29 at least, and are the most
-pub thirty : (plan_for 7250 30 ≡ none) × (plan_for 7251 30 ≡ some (planned 30 7251)) × (plan_for 32500 30 ≡ some (planned 30 32500)) × (plan_for 32500 31 ≡ none)
+pub thirty : (plan_for 7250 30 ≡ none) × (plan_for 7251 30 ≡ some (planned 30 7251)) × (plan_for 32500 30 ≡ some (planned 30 32500)) ×
+    (plan_for 32500 31 ≡ none)
 unfolding planned
 thirty = (plan-is 7250 30 (omega arith), plan-is 7251 30 (omega arith), plan-is 32500 30 (omega arith), plan-is 32500 31 (omega arith))
 

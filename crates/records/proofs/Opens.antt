@@ -10,7 +10,8 @@ use Rattle.octets.specs.NumbersLaws.{length-be}
 use Rattle.octets.specs.WrittenLaws.{Written, wrote, then}
 use Rattle.machine.specs.Limits.{largest_topic, rec_bytes, slots_of}
 use Rattle.machine.specs.Values.{Label}
-use Rattle.machine.specs.Layout.{free_at, held_at, id_at, source_at, destination_at, total_at, created_at, end_at, topic_at, id_width, address_width, number_width, rec_off}
+use Rattle.machine.specs.Layout.{free_at, held_at, id_at, source_at, destination_at, total_at, created_at, end_at, topic_at, id_width, address_width}
+use Rattle.machine.specs.Layout.{number_width, rec_off}
 use Rattle.records.specs.Opening.{opened, FieldsFit, front_of, rest_of}
 
 -- w of k bytes comes next, at o

@@ -79,7 +79,8 @@ records-none kind b m e = ap (λ (ps : List ℕ). records_fit kind b ps m) e
 
 -- the pieces of the record at x, scanned as the code does it
 pub scanned : {t : Table} (cells role : ℕ) (b : List ℕ) (x : ℕ) {first : ℕ} (m : List ℕ) {w : Walked} → t ≡ cell_table cells
-    → first ≡ get_or (rec_at b x) first_cell_at 0 → w ≡ chain_marked t role Piece b first m → w ≡ scan (λ p. piece_fits role (cell_at b p)) cells (pieces_at b x) m
+    → first ≡ get_or (rec_at b x) first_cell_at 0 → w ≡ chain_marked t role Piece b first m → w
+    ≡ scan (λ p. piece_fits role (cell_at b p)) cells (pieces_at b x) m
 scanned cells role b x m e f q = piece-chain _ cells role b _ (get_or (rec_at b x) first_cell_at 0) m _ e f q
 
 module _ {b : List ℕ} {x n : ℕ} (w : Way b x n) where

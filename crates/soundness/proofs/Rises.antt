@@ -137,9 +137,11 @@ fresh-is role cells h =
 -- three writes over all bytes
 pub fresh-written : (role cells : ℕ) (b m l o : List ℕ) → 1 ≤ cells → length b ≡ store_bytes cells
     → m ≡ put b 0 (fresh_head role cells)
-    → l ≡ put m head_bytes (free_table rec_bytes rec_count rec_count) → o ≡ put l (store_bytes 0) (free_table cell_bytes cells cells) → o ≡ encode (fresh role cells)
+    → l ≡ put m head_bytes (free_table rec_bytes rec_count rec_count) → o ≡ put l (store_bytes 0) (free_table cell_bytes cells cells) → o
+    ≡ encode (fresh role cells)
 fresh-written role cells b m l o h e p q r =
-    let recs : length (free_table rec_bytes rec_count rec_count) ≡ rec_bytes * rec_count = omega (arith, table-size rec_bytes rec_count (omega arith) 0 rec_count) in
+    let recs : length (free_table rec_bytes rec_count rec_count)
+    ≡ rec_bytes * rec_count = omega (arith, table-size rec_bytes rec_count (omega arith) 0 rec_count) in
     let rest : length (free_table cell_bytes cells cells) ≡ cell_bytes * cells = omega (arith, table-size cell_bytes cells (omega arith) 0 cells) in
     let w = then (free_table cell_bytes cells cells) (cell_bytes * cells)
     (then (free_table rec_bytes rec_count rec_count) (rec_bytes * rec_count) (wrote {a = 0} {n = head_bytes} p refl (omega (arith, e))) q recs

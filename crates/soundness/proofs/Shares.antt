@@ -53,7 +53,8 @@ module _ (b : List ℕ) (y : Bytes b) (o p : ℕ) (h : o + address_width ≤ len
       to t =
           let s = split (eqb (half o) (half p)) (eqb (half (o + number_width)) (half (p + number_width))) t in
           let e = half_is o p (omega arith) (omega arith) (eqb-true (half o) (half p) s.0) in
-          let f = half_is (o + number_width) (p + number_width) (omega arith) (omega arith) (eqb-true (half (o + number_width)) (half (p + number_width)) s.1) in
+          let f = half_is (o + number_width) (p + number_width) (omega arith) (omega arith)
+          (eqb-true (half (o + number_width)) (half (p + number_width)) s.1) in
           rw (halves o ∙ (λ i. e i ++ f i) ∙ sym (halves p)) (same_refl (part b p address_width))
 
       from : same (part b o address_width) (part b p address_width) ≡ true

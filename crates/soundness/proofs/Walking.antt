@@ -124,7 +124,8 @@ module _ (role : ℕ) (b : List ℕ) (t : Table) (m₁ m₂ m₃ : List ℕ) (x 
       → record { ok = z; marks = m₃ } ≡ pieces_marked cells role b (rec_chain b whole) m₂
       → e ≡ all_marked m₃ cells → ((x && (y && z)) && e) ≡ cells_once cells role b
   cells_are cells free held whole i f h w p q r s =
-      three-of (λ p. row_fits role Free cell_bytes (cell_at b p)) (λ p. row_fits role Piece cell_bytes (cell_at b p)) (λ p. row_fits role Piece cell_bytes (cell_at b p))
+      three-of (λ p. row_fits role Free cell_bytes (cell_at b p)) (λ p. row_fits role Piece cell_bytes (cell_at b p))
+      (λ p. row_fits role Piece cell_bytes (cell_at b p))
       cells (cell_chain b (get_or b free_cells_at 0)) (pieces_of b (rec_chain b (get_or b held_at 0)))
       (pieces_of b (rec_chain b (get_or b whole_at 0))) no_marks m₁ m₂ m₃ x y z e
       (chain-is t (cell_table cells) role Free Free b free (get_or b free_cells_at 0) no_marks _ i refl f p)

@@ -17,7 +17,8 @@ use Rattle.machine.specs.Tests.{every}
 use Rattle.machine.specs.Chains.{walk}
 use Rattle.machine.specs.Counting.{inside, each, once}
 use Rattle.machine.specs.Sources.{fair}
-use Rattle.machine.specs.Layout.{free_at, held_at, whole_at, free_cells_at, count_at, slots_at, size_at, size_width, cell_place, rec_place, rec_row, cell_row, rec_at}
+use Rattle.machine.specs.Layout.{free_at, held_at, whole_at, free_cells_at, count_at, slots_at, size_at, size_width, cell_place, rec_place, rec_row, cell_row}
+use Rattle.machine.specs.Layout.{rec_at}
 use Rattle.machine.specs.Layout.{cell_at, num_at, cell_of, rec_of, label_of, sending_of, rec_chain, cell_chain, read_cell, read_cells, read_rec, decode}
 use Rattle.machine.specs.Sound.{head_tests, cell_fits, rec_tests, rec_fits, no_rec, distinct, rec_places, piece_places}
 use Rattle.machine.specs.Sound.{rec_shape, cell_tests, cell_shape, free_shape, shape_tests, sound_tests, sound, rising}
@@ -461,7 +462,8 @@ module _ (role : ℕ) (b : List ℕ) where
               both fits shared (both (eqb role role_receive || eqb (get_or b whole_at 0) 0) (x && y) d.kinds (both x y u w)) (sym (shared-is u w) ∙ d.sources)
 
     pub sound-is : head_fits role b ≡ true → (kind held whole : ℕ) (x y z : Bool) (m₁ m : List ℕ) → kind ≡ held_kind role → held ≡ get_or b held_at 0
-        → whole ≡ get_or b whole_at 0 → (x ≡ records_fit kind b (rec_chain b held) (rec_chain b whole)) × (x ≡ true → m₁ ≡ counted b (rec_chain b held) no_counts)
+        → whole ≡ get_or b whole_at 0
+        → (x ≡ records_fit kind b (rec_chain b held) (rec_chain b whole)) × (x ≡ true → m₁ ≡ counted b (rec_chain b held) no_counts)
         → (y ≡ records_fit kind_whole b (rec_chain b whole) (rec_chain b 0)) × (y ≡ true → m ≡ counted b (rec_chain b whole) m₁)
         → z ≡ (not (eqb role role_receive)
         || (fair_on most_of_source b m (rec_chain b held) (rec_chain b whole) && fair_on most_of_source b m (rec_chain b whole) (rec_chain b 0)))

@@ -5,7 +5,8 @@ use Rattle.cuts.proofs.Start.{list_of}
 use Rattle.cuts.proofs.list.Goals as goal
 
 pub returns-clause-in_bounds : goal.returns-clause-in_bounds
-returns-clause-in_bounds g c = run-within c.deref.result.now c.args.text.now (record { answer = c.list-answer.result; out = c.list-answer.new.out }) (search rules) c.list-answer.ensures
+returns-clause-in_bounds g c = run-within c.deref.result.now c.args.text.now (record { answer = c.list-answer.result; out = c.list-answer.new.out })
+    (search rules) c.list-answer.ensures
 
 pub returns-clause-value : goal.returns-clause-value
 returns-clause-value g c =

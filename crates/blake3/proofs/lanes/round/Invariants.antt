@@ -7,7 +7,8 @@ use Rattle.blake3.proofs.lanes.round.Given as goal
 
 abbrev pub invariant-loop-j : goal.invariant-loop-j
 invariant-loop-j l =
-    (l.j ≤ 4) × Until 16 (λ i. round (lane 16 i l.initial.v) (lane 16 i l.initial.m)) (λ i. lane 16 i l.initial.v) l.v l.j × Until 16 (λ i. permute (lane 16 i l.initial.m)) (λ i. lane 16 i l.initial.m) l.m l.j
+    (l.j ≤ 4) × Until 16 (λ i. round (lane 16 i l.initial.v) (lane 16 i l.initial.m)) (λ i. lane 16 i l.initial.v) l.v l.j × Until 16
+    (λ i. permute (lane 16 i l.initial.m)) (λ i. lane 16 i l.initial.m) l.m l.j
 
 abbrev pub decreases-loop-j : goal.decreases-loop-j
 decreases-loop-j l = 4 - l.j

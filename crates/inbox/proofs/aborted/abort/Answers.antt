@@ -23,4 +23,5 @@ returns c =
     let drop = c in
     let held = drop in
     let h = searched (goal.at.returns c).After-find_held-link in
-    done _ _ _ _ (number_is h _ (sym (asks-met (ended h) _ held.if-recv-link-eq0.false ∙ clear))) (rw (own_key h held.if-recv-link-eq0.false) at drop.drop.ensures)
+    done _ _ _ _ (number_is h _ (sym (asks-met (ended h) _ held.if-recv-link-eq0.false ∙ clear)))
+    (rw (own_key h held.if-recv-link-eq0.false) at drop.drop.ensures)

@@ -34,7 +34,8 @@ new c = sym c.has_piece.ensures ∙ c.if-has_piece.false
 abbrev held : After-of_source → ℕ
 held c =
     let piece = c in
-    held_by (rec_in piece.args.recv.now piece.args.link).label.source ((store (up-After-has_piece _ _ _ c.before.before.before.before)).held ++ (store (up-After-has_piece _ _ _ c.before.before.before.before)).whole)
+    held_by (rec_in piece.args.recv.now piece.args.link).label.source
+    ((store (up-After-has_piece _ _ _ c.before.before.before.before)).held ++ (store (up-After-has_piece _ _ _ c.before.before.before.before)).whole)
 
 held-is : (c : After-of_source) → c.of_source.result ≡ held c
 unfolding rec_of
@@ -43,35 +44,56 @@ held-is c =
     c.of_source.ensures ∙ ap (λ (a : List ℕ). held_by a (s.held ++ s.whole)) c.source.ensures
 
 below : (c : Else-of_source-ge-MOST_OF_SOURCE) → ltb (held (up-After-of_source _ _ _ c.before.before)) most_of_source ≡ true
-below c = lt-ltb (held (up-After-of_source _ _ _ c.before.before)) most_of_source (omega (arith, held-is (up-After-of_source _ _ _ c.before.before), c.if-of_source-ge-MOST_OF_SOURCE.false))
+below c = lt-ltb (held (up-After-of_source _ _ _ c.before.before)) most_of_source
+    (omega (arith, held-is (up-After-of_source _ _ _ c.before.before), c.if-of_source-ge-MOST_OF_SOURCE.false))
 
 -- whether a cell is free
-free : (c : After-is_free_cell) (x : Bool) → c.is_free_cell.result ≡ x → leb 1 (length (store (up-After-has_piece _ _ _ c.before.before.before.before.before.before)).free_cells) ≡ x
+free : (c : After-is_free_cell) (x : Bool) → c.is_free_cell.result ≡ x
+    → leb 1 (length (store (up-After-has_piece _ _ _ c.before.before.before.before.before.before)).free_cells) ≡ x
 free c x e = sym c.is_free_cell.ensures ∙ e
 
 pub returns-then-has_piece : goal.returns-then-has_piece
 unfolding refusal
 returns-then-has_piece c =
     let piece = c in
-    rw (sym piece.has_piece.ensures ∙ c.if-has_piece.true, le-leb 0 (length (store (goal.at.returns-then-has_piece c).After-has_piece).free_cells) (omega arith))
+    rw (
+      sym piece.has_piece.ensures
+          ∙ c.if-has_piece.true,
+      le-leb 0 (length (store (goal.at.returns-then-has_piece c).After-has_piece).free_cells) (omega arith),
+    )
 
 pub returns-then-of_source-ge-MOST_OF_SOURCE : goal.returns-then-of_source-ge-MOST_OF_SOURCE
 unfolding refusal
 returns-then-of_source-ge-MOST_OF_SOURCE c =
     let source = c in
-    rw (new (goal.at.returns-then-of_source-ge-MOST_OF_SOURCE c).Else-has_piece, le-ltb (held (goal.at.returns-then-of_source-ge-MOST_OF_SOURCE c).After-of_source) most_of_source (omega (arith, held-is (goal.at.returns-then-of_source-ge-MOST_OF_SOURCE c).After-of_source, c.if-of_source-ge-MOST_OF_SOURCE.true)))
+    rw (
+      new (goal.at.returns-then-of_source-ge-MOST_OF_SOURCE c).Else-has_piece,
+      le-ltb
+          (held (goal.at.returns-then-of_source-ge-MOST_OF_SOURCE c).After-of_source) most_of_source
+          (omega (arith, held-is (goal.at.returns-then-of_source-ge-MOST_OF_SOURCE c).After-of_source, c.if-of_source-ge-MOST_OF_SOURCE.true)),
+    )
 
 pub returns-then-not-is_free_cell : goal.returns-then-not-is_free_cell
 unfolding refusal
 returns-then-not-is_free_cell c =
     let share = c in
-    rw (new (goal.at.returns-then-not-is_free_cell c).Else-has_piece, below (goal.at.returns-then-not-is_free_cell c).Else-of_source-ge-MOST_OF_SOURCE, free (goal.at.returns-then-not-is_free_cell c).After-is_free_cell false c.if-not-is_free_cell.true)
+    rw (
+      new (goal.at.returns-then-not-is_free_cell c).Else-has_piece,
+      below (goal.at.returns-then-not-is_free_cell c).Else-of_source-ge-MOST_OF_SOURCE,
+      free
+          (goal.at.returns-then-not-is_free_cell c).After-is_free_cell false c.if-not-is_free_cell.true,
+    )
 
 pub returns : goal.returns
 unfolding refusal
 returns c =
     let share = c in
-    rw (new (goal.at.returns c).Else-has_piece, below (goal.at.returns c).Else-of_source-ge-MOST_OF_SOURCE, free (goal.at.returns c).After-is_free_cell true c.if-not-is_free_cell.false)
+    rw (
+      new (goal.at.returns c).Else-has_piece,
+      below (goal.at.returns c).Else-of_source-ge-MOST_OF_SOURCE,
+      free
+          (goal.at.returns c).After-is_free_cell true c.if-not-is_free_cell.false,
+    )
 
 pub has_piece-requires : goal.has_piece-requires
 has_piece-requires c = ((role_receive, c.requires.0), c.requires.1)

@@ -64,7 +64,9 @@ returns-then-number-ne-DONE c =
     let found = c in
     let s = found in
     let met = met_at s.args.recv.now found.find_held-link.result in
-    refused _ _ _ _ (number_is (searched (goal.at.returns-then-number-ne-DONE c).After-find_held-link) _ (front-refuses met (front (goal.at.returns-then-number-ne-DONE c).Start) (rest (goal.at.returns-then-number-ne-DONE c).Start) c.refusal-number.ensures c.if-number-ne-DONE.true)) c.if-number-ne-DONE.true
+    refused _ _ _ _ (number_is (searched (goal.at.returns-then-number-ne-DONE c).After-find_held-link) _
+    (front-refuses met (front (goal.at.returns-then-number-ne-DONE c).Start)
+    (rest (goal.at.returns-then-number-ne-DONE c).Start) c.refusal-number.ensures c.if-number-ne-DONE.true)) c.if-number-ne-DONE.true
 
 pub returns-then-room-ne-DONE : goal.returns-then-room-ne-DONE
 returns-then-room-ne-DONE c =
@@ -76,7 +78,8 @@ put_piece-requires c =
     let cell = c in
     let link = cell in
     let accepted = link in
-    let room = refusal-clear (rest (begun (goal.at.put_piece-requires c).Else-number-ne-DONE) (there (goal.at.put_piece-requires c).Else-number-ne-DONE)) refl (sym cell.cell_refusal-room.ensures ∙ c.if-room-ne-DONE.false) in (
+    let room = refusal-clear (rest (begun (goal.at.put_piece-requires c).Else-number-ne-DONE) (there (goal.at.put_piece-requires c).Else-number-ne-DONE)) refl
+    (sym cell.cell_refusal-room.ensures ∙ c.if-room-ne-DONE.false) in (
       held (goal.at.put_piece-requires c).Else-number-ne-DONE,
       link.piece_link-spot.ensures,
       leb-true _ _ (refusal-clear _ refl (front-clear (goal.at.put_piece-requires c).Else-number-ne-DONE)).1.0,
@@ -92,7 +95,8 @@ returns c =
     let cell = room in
     let accepted = cell in
     let own = held-key (searched (goal.at.returns c).After-find_held-link) _ accepted.refusal-number.ensures accepted.if-number-ne-DONE.false in
-    done _ _ _ _ (from28 (goal.at.returns c).Else-number-ne-DONE (sym cell.cell_refusal-room.ensures ∙ room.if-room-ne-DONE.false)) (rw own at put.put_piece.ensures)
+    done _ _ _ _ (from28 (goal.at.returns c).Else-number-ne-DONE (sym cell.cell_refusal-room.ensures ∙ room.if-room-ne-DONE.false))
+    (rw own at put.put_piece.ensures)
 
 pub refusal-number-requires : goal.refusal-number-requires
 refusal-number-requires c = ended (searched c)

@@ -56,7 +56,11 @@ from11 c = from10 (up-Else-not-fits _ _ _ c.before.before.before) ∙ next _ _ _
 -- the length fits
 longest-is : (c : After-total-total) → c.total-total.result ≤ longest
 unfolding rec_of
-longest-is c = let met = c in omega (arith, c.total-total.ensures, (here-fine _ _ (bytes (up-Else-recv-link-eq0 _ _ _ c.before.before)) _ (held (up-Else-recv-link-eq0 _ _ _ c.before.before))).total)
+longest-is c = let met = c in omega (
+  arith,
+  c.total-total.ensures,
+  (here-fine _ _ (bytes (up-Else-recv-link-eq0 _ _ _ c.before.before)) _ (held (up-Else-recv-link-eq0 _ _ _ c.before.before))).total,
+)
 
 pub bounds-recv-link : goal.bounds-recv-link
 bounds-recv-link c = searched-inside _ _ (λ i. (c.shared_slice_known-1.given i).fits) _ c.requires
@@ -68,7 +72,8 @@ pub returns-then-not-fits : goal.returns-then-not-fits
 returns-then-not-fits c = sym (from9 (goal.at.returns-then-not-fits c).After-total-total ∙ stop _ _ _ (sym c.fits.ensures ∙ c.if-not-fits.true))
 
 pub returns-then-index-top : goal.returns-then-index-top
-returns-then-index-top c = sym (from10 (goal.at.returns-then-index-top c).Else-not-fits ∙ stop _ _ _ (ap (leb _) (sym c.top.ensures.0) ∙ lt-leb _ _ c.if-index-top.true))
+returns-then-index-top c = sym
+    (from10 (goal.at.returns-then-index-top c).Else-not-fits ∙ stop _ _ _ (ap (leb _) (sym c.top.ensures.0) ∙ lt-leb _ _ c.if-index-top.true))
 
 pub too_short-requires : goal.too_short-requires
 too_short-requires c = (longest-is (goal.at.too_short-requires c).After-total-total, leb-true _ _ (inside (goal.at.too_short-requires c).Else-not-fits))

@@ -12,7 +12,8 @@ searched : (c : After-find_held-link) → Search role_receive c.args.recv.now c.
 searched c = record { bytes = λ i. (c.slice_known-1.given i).fits; sound = c.requires; is = c.find_held-link.ensures.0 }
 
 pub returns-then-number-ne-DONE : goal.returns-then-number-ne-DONE
-returns-then-number-ne-DONE c = refused _ _ _ _ (number_is (searched (goal.at.returns-then-number-ne-DONE c).After-find_held-link) _ c.refusal-number.ensures) c.if-number-ne-DONE.true
+returns-then-number-ne-DONE c = refused _ _ _ _
+    (number_is (searched (goal.at.returns-then-number-ne-DONE c).After-find_held-link) _ c.refusal-number.ensures) c.if-number-ne-DONE.true
 
 pub finish-requires : goal.finish-requires
 finish-requires c =

@@ -37,7 +37,8 @@ reached c = here-reached _ _ (bytes c) _ (held c)
 abbrev From : ℕ → Else-recv-link-eq0 → Type 0
 From n c =
     let a = c.args in
-    refusal (row c.before.before.before.before.before (met_at a.recv.now a.link)) ≡ refusal (drop n (row c.before.before.before.before.before (some (rec_in a.recv.now a.link))))
+    refusal (row c.before.before.before.before.before (met_at a.recv.now a.link))
+    ≡ refusal (drop n (row c.before.before.before.before.before (some (rec_in a.recv.now a.link))))
 
 from13 : (c : Else-recv-link-eq0) → From 0 c
 from13 c = asks-met c.requires _ c.if-recv-link-eq0.false
@@ -53,7 +54,8 @@ from15 : (c : Else-count_pieces-slots) → From 2 (met3 c)
 unfolding rec_of
 from15 c =
     let slots = c in
-    from14 (up-Else-count-slots _ _ _ c.before.before.before) ∙ next _ _ _ (eq-eqb _ _ (sym c.count_pieces.ensures ∙ c.if-count_pieces-slots.false ∙ slots.slots-slots.ensures.0))
+    from14 (up-Else-count-slots _ _ _ c.before.before.before)
+    ∙ next _ _ _ (eq-eqb _ _ (sym c.count_pieces.ensures ∙ c.if-count_pieces-slots.false ∙ slots.slots-slots.ensures.0))
 
 abbrev met4 : Else-count_bytes-total → Else-recv-link-eq0
 met4 c = met3 (up-Else-count_pieces-slots _ _ _ c.before.before.before.before)
@@ -63,7 +65,8 @@ unfolding rec_of
 from16 c =
     let total = c in
     let bytes = total in
-    from15 (up-Else-count_pieces-slots _ _ _ c.before.before.before.before) ∙ next _ _ _ (eq-eqb _ _ (sym bytes.count_bytes.ensures ∙ c.if-count_bytes-total.false ∙ total.total.ensures))
+    from15 (up-Else-count_pieces-slots _ _ _ c.before.before.before.before)
+    ∙ next _ _ _ (eq-eqb _ _ (sym bytes.count_bytes.ensures ∙ c.if-count_bytes-total.false ∙ total.total.ensures))
 
 abbrev met5 : Else-not-has_sum → Else-recv-link-eq0
 met5 c = met4 (up-Else-count_bytes-total _ _ _ c.before.before.before)
@@ -79,20 +82,23 @@ returns-then-recv-link-eq0 c = none-met c.requires _ c.if-recv-link-eq0.true
 
 pub returns-then-count-slots : goal.returns-then-count-slots
 unfolding rec_of
-returns-then-count-slots c = sym (from13 (goal.at.returns-then-count-slots c).Else-recv-link-eq0 ∙ stop _ _ _ (ne_eqb _ _ (λ q. c.if-count-slots.true (q ∙ sym c.slots-slots.ensures.0))))
+returns-then-count-slots c = sym
+    (from13 (goal.at.returns-then-count-slots c).Else-recv-link-eq0 ∙ stop _ _ _ (ne_eqb _ _ (λ q. c.if-count-slots.true (q ∙ sym c.slots-slots.ensures.0))))
 
 pub returns-then-count_pieces-slots : goal.returns-then-count_pieces-slots
 unfolding rec_of
 returns-then-count_pieces-slots c =
     let slots = c in
-    sym (from14 (goal.at.returns-then-count_pieces-slots c).Else-count-slots ∙ stop _ _ _ (ne_eqb _ _ (λ q. c.if-count_pieces-slots.true (c.count_pieces.ensures ∙ q ∙ sym slots.slots-slots.ensures.0))))
+    sym (from14 (goal.at.returns-then-count_pieces-slots c).Else-count-slots
+    ∙ stop _ _ _ (ne_eqb _ _ (λ q. c.if-count_pieces-slots.true (c.count_pieces.ensures ∙ q ∙ sym slots.slots-slots.ensures.0))))
 
 pub returns-then-count_bytes-total : goal.returns-then-count_bytes-total
 unfolding rec_of
 returns-then-count_bytes-total c =
     let total = c in
     let bytes = total in
-    sym (from15 (goal.at.returns-then-count_bytes-total c).Else-count_pieces-slots ∙ stop _ _ _ (ne_eqb _ _ (λ q. c.if-count_bytes-total.true (bytes.count_bytes.ensures ∙ q ∙ sym total.total.ensures))))
+    sym (from15 (goal.at.returns-then-count_bytes-total c).Else-count_pieces-slots
+    ∙ stop _ _ _ (ne_eqb _ _ (λ q. c.if-count_bytes-total.true (bytes.count_bytes.ensures ∙ q ∙ sym total.total.ensures))))
 
 pub has_sum-requires : goal.has_sum-requires
 unfolding rec_of
@@ -102,7 +108,8 @@ has_sum-requires c =
     (held met, omega (arith, (here-fine _ _ (bytes met) _ (held met)).total, total.total.ensures, c.if-count_bytes-total.false, total.count_bytes.ensures))
 
 pub returns-then-not-has_sum : goal.returns-then-not-has_sum
-returns-then-not-has_sum c = sym (from16 (goal.at.returns-then-not-has_sum c).Else-count_bytes-total ∙ stop _ _ _ (sym c.has_sum.ensures ∙ c.if-not-has_sum.true))
+returns-then-not-has_sum c = sym
+    (from16 (goal.at.returns-then-not-has_sum c).Else-count_bytes-total ∙ stop _ _ _ (sym c.has_sum.ensures ∙ c.if-not-has_sum.true))
 
 pub returns-then-known-eq0 : goal.returns-then-known-eq0
 returns-then-known-eq0 c = sym (from17 (goal.at.returns-then-known-eq0 c).Else-not-has_sum ∙ stop _ _ _ (ap not (eq-eqb _ 0 c.if-known-eq0.true)))

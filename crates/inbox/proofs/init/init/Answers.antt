@@ -61,11 +61,13 @@ fine c =
     record { sized = s.requires.1; reply = one-le s.args.label.reply; total = leb-true _ _ (cleared c).1.0 }
 
 -- no record is held
-none-held : (c : Then-recv-link-eq0) → let a = (begun (up-After-refusal-number _ _ _ c.before.before.before.before)).args in found a.label.id (decode a.recv.now).held ≡ none
+none-held : (c : Then-recv-link-eq0) → let a = (begun (up-After-refusal-number _ _ _ c.before.before.before.before)).args in
+    found a.label.id (decode a.recv.now).held ≡ none
 none-held c = let h = searched (up-After-refusal-number _ _ _ c.before.before.before.before) in found_none _ _ h.bytes h.sound _ _ h.is c.if-recv-link-eq0.true
 
 pub returns-then-refused-ne-DONE : goal.returns-then-refused-ne-DONE
-returns-then-refused-ne-DONE c = refused _ _ _ _ (front-stop (book (goal.at.returns-then-refused-ne-DONE c).Start) _ _ c.rules_refusal-refused.ensures c.if-refused-ne-DONE.true) c.if-refused-ne-DONE.true
+returns-then-refused-ne-DONE c = refused _ _ _ _
+    (front-stop (book (goal.at.returns-then-refused-ne-DONE c).Start) _ _ c.rules_refusal-refused.ensures c.if-refused-ne-DONE.true) c.if-refused-ne-DONE.true
 
 pub returns-then-number-ne-DONE : goal.returns-then-number-ne-DONE
 returns-then-number-ne-DONE c = refused _ _ _ _ (number_is (goal.at.returns-then-number-ne-DONE c).After-refusal-number) c.if-number-ne-DONE.true
@@ -75,7 +77,8 @@ open_arriving-requires c =
     let absent = c in
     let accepted = absent in
     let h = searched (goal.at.open_arriving-requires c).After-refusal-number in
-    let free = free-is role_receive _ h.bytes h.sound ∙ rw (eq-eqb _ 0 absent.if-recv-link-eq0.true) at (cleared (goal.at.open_arriving-requires c).Else-number-ne-DONE).1.1.0 in
+    let free = free-is role_receive _ h.bytes h.sound
+    ∙ rw (eq-eqb _ 0 absent.if-recv-link-eq0.true) at (cleared (goal.at.open_arriving-requires c).Else-number-ne-DONE).1.1.0 in
     record {
       sound = h.sound;
       free = openable _ (links role_receive _ h.bytes h.sound) (ltb-true 0 _ free);
@@ -89,7 +92,8 @@ returns-then-recv-link-eq0 c =
     let opened = c in
     let absent = opened in
     let accepted = absent in
-    done _ _ _ _ (sym accepted.if-number-ne-DONE.false ∙ number_is (goal.at.returns-then-recv-link-eq0 c).After-refusal-number) (rw (none-held (goal.at.returns-then-recv-link-eq0 c).Then-recv-link-eq0) opened.open_arriving.ensures)
+    done _ _ _ _ (sym accepted.if-number-ne-DONE.false ∙ number_is (goal.at.returns-then-recv-link-eq0 c).After-refusal-number)
+    (rw (none-held (goal.at.returns-then-recv-link-eq0 c).Then-recv-link-eq0) opened.open_arriving.ensures)
 
 -- a record is held
 some-held : (c : Else-recv-link-eq0) → let n = c in let a = (begun (up-After-refusal-number _ _ _ c.before.before.before.before)).args in
@@ -131,4 +135,5 @@ returns c =
     let there = asked in
     let accepted = there in
     done _ _ _ _ (sym accepted.if-number-ne-DONE.false ∙ number_is (goal.at.returns c).After-refusal-number)
-    (rw (sym (compared (goal.at.returns c).After-says_again) ∙ differs.if-says_again.false) (rw (some-held (goal.at.returns c).Else-recv-link-eq0) restarted.restart.ensures))
+    (rw (sym (compared (goal.at.returns c).After-says_again) ∙ differs.if-says_again.false)
+    (rw (some-held (goal.at.returns c).Else-recv-link-eq0) restarted.restart.ensures))

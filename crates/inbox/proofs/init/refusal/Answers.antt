@@ -46,16 +46,19 @@ none-held c = omega (arith, c.if-recv-link-gt0.false)
 pub returns-then-recv-link-gt0 : goal.returns-then-recv-link-gt0
 returns-then-recv-link-gt0 c =
     let a = c.args in
-    sym (from7 (goal.at.returns-then-recv-link-gt0 c).Else-total-gt-LONGEST ∙ next _ _ _ (rw (ne_eqb (get_or a.recv.now a.link 0) 0 (λ e. omega (arith, c.if-recv-link-gt0.true)))) ∙ clear)
+    sym (from7 (goal.at.returns-then-recv-link-gt0 c).Else-total-gt-LONGEST
+    ∙ next _ _ _ (rw (ne_eqb (get_or a.recv.now a.link 0) 0 (λ e. omega (arith, c.if-recv-link-gt0.true)))) ∙ clear)
 
 pub returns-then-is_free : goal.returns-then-is_free
 returns-then-is_free c =
     let free = c in
     let past = free in
-    sym (from7 (goal.at.returns-then-is_free c).Else-total-gt-LONGEST ∙ next _ _ _ (rw (eq-eqb _ 0 (none-held (goal.at.returns-then-is_free c).Else-recv-link-gt0)) (sym free.is_free.ensures ∙ c.if-is_free.true)) ∙ clear)
+    sym (from7 (goal.at.returns-then-is_free c).Else-total-gt-LONGEST
+    ∙ next _ _ _ (rw (eq-eqb _ 0 (none-held (goal.at.returns-then-is_free c).Else-recv-link-gt0)) (sym free.is_free.ensures ∙ c.if-is_free.true)) ∙ clear)
 
 pub returns : goal.returns
 returns c =
     let free = c in
     let past = free in
-    sym (from7 (goal.at.returns c).Else-total-gt-LONGEST ∙ stop _ _ _ (rw (eq-eqb _ 0 (none-held (goal.at.returns c).Else-recv-link-gt0)) (sym free.is_free.ensures ∙ c.if-is_free.false)))
+    sym (from7 (goal.at.returns c).Else-total-gt-LONGEST
+    ∙ stop _ _ _ (rw (eq-eqb _ 0 (none-held (goal.at.returns c).Else-recv-link-gt0)) (sym free.is_free.ensures ∙ c.if-is_free.false)))

@@ -37,7 +37,8 @@ loop-n-preserved c =
     let l = small in
     let place = small.small-place.ensures.0 in
     sum_more l.loop-n.invariant place (omega arith) some.if-place-eq0.false c.record_at-here.ensures
-    (l.requires.0.recs small.small-place.result (omega (arith, some.if-place-eq0.false)) (omega (arith, l.loop-n.invariant.within.small))) c.of_record-more.ensures
+    (l.requires.0.recs small.small-place.result (omega (arith, some.if-place-eq0.false))
+    (omega (arith, l.loop-n.invariant.within.small))) c.of_record-more.ensures
 
 pub returns : goal.returns
 returns c = let inv = c.loop-n.invariant in (sum-out inv c.loop-n-test.false, sum-small inv)

@@ -63,11 +63,13 @@ pub returns-then-run-lt-READ_ROOM : goal.returns-then-run-lt-READ_ROOM
 returns-then-run-lt-READ_ROOM c =
     let whole = c in
     let short = lt-leb take_room (length whole.args.run.now) c.if-run-lt-READ_ROOM.true in
-    let e : row (goal.at.returns-then-run-lt-READ_ROOM c).Start ≡ 2 = rw (some-whole _ (oldest (goal.at.returns-then-run-lt-READ_ROOM c).Else-recv-eq0).some) (stop _ _ _ (rw short)) in
+    let e : row (goal.at.returns-then-run-lt-READ_ROOM c).Start
+    ≡ 2 = rw (some-whole _ (oldest (goal.at.returns-then-run-lt-READ_ROOM c).Else-recv-eq0).some) (stop _ _ _ (rw short)) in
     rw (e, c.refuse-then-run-lt-READ_ROOM.ensures)
 
 pub overflow_add-total : goal.overflow_add-total
-overflow_add-total c = let whole = c in omega (arith, (oldest-fine _ (bytes (goal.at.overflow_add-total c).Else-recv-eq0) (oldest (goal.at.overflow_add-total c).Else-recv-eq0)).total, length-is c)
+overflow_add-total c = let whole = c in omega
+    (arith, (oldest-fine _ (bytes (goal.at.overflow_add-total c).Else-recv-eq0) (oldest (goal.at.overflow_add-total c).Else-recv-eq0)).total, length-is c)
 
 pub returns-then-taken-total : goal.returns-then-taken-total
 returns-then-taken-total c =
@@ -75,8 +77,11 @@ returns-then-taken-total c =
     let fits = total in
     let whole = fits in
     let need = taken_room (message (goal.at.returns-then-taken-total c).Else-recv-eq0).label.total in
-    let short = lt-leb need (length whole.args.taken.now) (omega (arith, c.if-taken-total.true, length-is (goal.at.returns-then-taken-total c).After-total-total)) in
-    let e : row (goal.at.returns-then-taken-total c).Start ≡ 2 = rw (some-whole _ (oldest (goal.at.returns-then-taken-total c).Else-recv-eq0).some) (stop _ _ _ (rw (le-leb _ _ fits.if-run-lt-READ_ROOM.false, short))) in
+    let short = lt-leb need (length whole.args.taken.now)
+    (omega (arith, c.if-taken-total.true, length-is (goal.at.returns-then-taken-total c).After-total-total)) in
+    let e : row (goal.at.returns-then-taken-total c).Start
+    ≡ 2 = rw (some-whole _ (oldest (goal.at.returns-then-taken-total c).Else-recv-eq0).some)
+    (stop _ _ _ (rw (le-leb _ _ fits.if-run-lt-READ_ROOM.false, short))) in
     rw (e, c.refuse-then-taken-total.ensures)
 
 pub put_read-requires : goal.put_read-requires
@@ -106,7 +111,17 @@ returns c =
     let whole = fits in
     let passed = both _ _ (le-leb _ _ fits.if-run-lt-READ_ROOM.false) (le-leb _ _ (room (goal.at.returns c).Else-taken-total)) in
     let e : row (goal.at.returns c).Start ≡ 0 = rw (some-whole _ (oldest (goal.at.returns c).Else-recv-eq0).some) (next _ _ _ passed ∙ clear) in
-    rw (e, c.sent.ensures, first.take_first.ensures, message.put_message.ensures, read.put_read.ensures, some-whole _ (oldest (goal.at.returns c).Else-recv-eq0).some, long (goal.at.returns c).Else-recv-eq0)
+    rw (
+      e,
+      c.sent.ensures,
+      first.take_first.ensures,
+      message.put_message.ensures,
+      read.put_read.ensures,
+      some-whole _
+          (oldest (goal.at.returns c).Else-recv-eq0).some,
+      long (goal.at.returns c).Else-recv-eq0,
+    )
 
 pub total-total-requires : goal.total-total-requires
-total-total-requires c = let whole = c in oldest-placed _ (bytes (goal.at.total-total-requires c).Else-recv-eq0) (oldest (goal.at.total-total-requires c).Else-recv-eq0)
+total-total-requires c = let whole = c in
+    oldest-placed _ (bytes (goal.at.total-total-requires c).Else-recv-eq0) (oldest (goal.at.total-total-requires c).Else-recv-eq0)

@@ -11,7 +11,8 @@ invariant-loop-head l =
     × (length l.office_recv ≡ length l.initial.office_recv)
     × (length l.office_send ≡ length l.initial.office_send)
     × (length l.queue ≡ queue_room)
-    × Settling (goal_of l.initial.tablet_recv l.initial.tablet_send l.initial.office_recv l.initial.office_send l.run (drop l.used l.letters)) l.tablet_recv l.tablet_send l.office_recv l.office_send
+    × Settling (goal_of l.initial.tablet_recv l.initial.tablet_send l.initial.office_recv l.initial.office_send l.run
+    (drop l.used l.letters)) l.tablet_recv l.tablet_send l.office_recv l.office_send
     l.queue l.letters l.head l.tail l.next l.left
 
 abbrev pub decreases-loop-head : goal.decreases-loop-head

@@ -14,7 +14,9 @@ invariant-loop-k l =
     × (length l.office_recv ≡ length l.initial.office_recv)
     × (length l.office_send ≡ length l.initial.office_send)
     × (length l.text ≡ length l.initial.text)
-    × Showing l.initial.text l.at (take l.at l.initial.text ++ lines_from rounds 1 (room_of l.initial.tablet_recv l.initial.tablet_send l.initial.office_recv l.initial.office_send [] (drop l.used l.letters)))
+    × Showing l.initial.text l.at
+    (take l.at l.initial.text ++ lines_from rounds 1
+    (room_of l.initial.tablet_recv l.initial.tablet_send l.initial.office_recv l.initial.office_send [] (drop l.used l.letters)))
     l.tablet_recv l.tablet_send l.office_recv l.office_send l.letters l.text l.k l.next l.end
 
 abbrev pub decreases-loop-k : goal.decreases-loop-k

@@ -16,8 +16,11 @@ use Rattle.message.specs.Both.{both_of, reply_out}
 use Rattle.message.proofs.Packets.{step-out, done-out}
 use borrow.Author.Rules.{rules}
 use Rattle.message.proofs.receive.packet.Goals as goal
-use Rattle.message.proofs.receive.packet.Lts.View.{up-After-effect_of-effect, up-After-is_enough, up-After-kind_of-kind, up-Else-frame-lt-SIZE, up-Else-not-effect, up-Else-not-is_enough, up-Else-not-is_frame, up-Else-not-sound, up-Else-not-sound-2}
-use Rattle.message.proofs.receive.packet.Goals.{After-effect_of-effect, After-is_enough, After-kind_of-kind, After-step-number, Else-frame-lt-SIZE, Else-not-effect, Else-not-is_enough, Else-not-is_frame, Else-not-sound, Else-not-sound-2, Else-run-lt-REPLY_ROOM, Start}
+use Rattle.message.proofs.receive.packet.Lts.View.{up-After-effect_of-effect, up-After-is_enough, up-After-kind_of-kind, up-Else-frame-lt-SIZE}
+use Rattle.message.proofs.receive.packet.Lts.View.{up-Else-not-effect, up-Else-not-is_enough, up-Else-not-is_frame, up-Else-not-sound, up-Else-not-sound-2}
+use Rattle.message.proofs.receive.packet.Goals.{After-effect_of-effect, After-is_enough, After-kind_of-kind, After-step-number, Else-frame-lt-SIZE}
+use Rattle.message.proofs.receive.packet.Goals.{Else-not-effect, Else-not-is_enough, Else-not-is_frame, Else-not-sound, Else-not-sound-2}
+use Rattle.message.proofs.receive.packet.Goals.{Else-run-lt-REPLY_ROOM, Start}
 
 -- the packet and its row of refusals, from each point on its way
 abbrev P : Start → Packet
@@ -49,8 +52,11 @@ s6 c = s5 (up-Else-not-is_enough _ _ _ c.before.before.before.before)
 kind-is : (c : After-kind_of-kind) → c.kind_of-kind.result ≡ kind (P (s4 (up-Else-frame-lt-SIZE _ _ _ c.before.before.before)))
 kind-is c = c.kind_of-kind.ensures ∙ ap kind_of c.flags.ensures
 
-enough-is : (c : After-is_enough) → let p = P (s4 (up-Else-frame-lt-SIZE _ _ _ c.before.before.before.before)) in is_enough (kind p) p.frame ≡ c.is_enough.result
-enough-is c = sym (c.is_enough.ensures ∙ ap (λ (k : Kind). is_enough k (P (s4 (up-Else-frame-lt-SIZE _ _ _ c.before.before.before.before))).frame) (kind-is (up-After-kind_of-kind _ _ _ c.before.before)))
+enough-is : (c : After-is_enough) → let p = P (s4 (up-Else-frame-lt-SIZE _ _ _ c.before.before.before.before)) in
+    is_enough (kind p) p.frame ≡ c.is_enough.result
+enough-is c = sym (c.is_enough.ensures
+    ∙ ap (λ (k : Kind). is_enough k (P (s4 (up-Else-frame-lt-SIZE _ _ _ c.before.before.before.before))).frame)
+    (kind-is (up-After-kind_of-kind _ _ _ c.before.before)))
 
 -- the row behind each test
 from1 : (c : Else-not-sound) → From 1 c.before.before.before.before.before.before.before.before
@@ -69,7 +75,8 @@ from4 : (c : Else-not-is_enough) → From 4 (s5 c)
 unfolding packet_row
 from4 c =
     let enough = c in
-    from3 (up-Else-not-is_frame _ _ _ c.before.before.before.before.before.before) ∙ next _ _ _ (enough-is (up-After-is_enough _ _ _ c.before.before) ∙ c.if-not-is_enough.false)
+    from3 (up-Else-not-is_frame _ _ _ c.before.before.before.before.before.before)
+    ∙ next _ _ _ (enough-is (up-After-is_enough _ _ _ c.before.before) ∙ c.if-not-is_enough.false)
 
 -- some kind fits, or none
 any-is : (c : After-effect_of-effect) → is_kind (kind (P (s5 (up-Else-not-is_enough _ _ _ c.before.before)))) ≡ c.effect_of-effect.result.any
@@ -77,7 +84,8 @@ any-is c = sym (c.effect_of-effect.ensures.0 ∙ ap is_kind (kind-is (up-After-k
 
 from5 : (c : Else-not-effect) → From 5 (s6 c)
 unfolding packet_row
-from5 c = let effect = c in from4 (up-Else-not-is_enough _ _ _ c.before.before.before.before) ∙ next _ _ _ (any-is (up-After-effect_of-effect _ _ _ c.before.before.before) ∙ not-false _ c.if-not-effect.false)
+from5 c = let effect = c in from4 (up-Else-not-is_enough _ _ _ c.before.before.before.before)
+    ∙ next _ _ _ (any-is (up-After-effect_of-effect _ _ _ c.before.before.before) ∙ not-false _ c.if-not-effect.false)
 
 from6 : (c : Else-run-lt-REPLY_ROOM) → From 6 (s6 (up-Else-not-effect _ _ _ c.before.before))
 unfolding packet_row
@@ -98,7 +106,12 @@ pub returns-then-not-is_frame : goal.returns-then-not-is_frame
 unfolding packet_of packet_row refusal
 returns-then-not-is_frame c =
     let framed = c in
-    rw (from2 (goal.at.returns-then-not-is_frame c).Else-not-sound-2, sym framed.is_frame.ensures ∙ c.if-not-is_frame.true, c.refuse-then-not-is_frame.ensures) refl
+    rw (
+      from2 (goal.at.returns-then-not-is_frame c).Else-not-sound-2,
+      sym framed.is_frame.ensures
+          ∙ c.if-not-is_frame.true,
+      c.refuse-then-not-is_frame.ensures,
+    ) refl
 
 -- the header did not come, or not all that the kind needs
 pub returns-then-frame-lt-SIZE : goal.returns-then-frame-lt-SIZE
@@ -113,17 +126,28 @@ pub returns-then-not-is_enough : goal.returns-then-not-is_enough
 unfolding packet_of packet_row refusal
 returns-then-not-is_enough c =
     let enough = c in
-    rw (from3 (goal.at.returns-then-not-is_enough c).Else-not-is_frame, enough-is (goal.at.returns-then-not-is_enough c).After-is_enough ∙ c.if-not-is_enough.true, c.refuse-then-not-is_enough.ensures) refl
+    rw (
+      from3 (goal.at.returns-then-not-is_enough c).Else-not-is_frame,
+      enough-is (goal.at.returns-then-not-is_enough c).After-is_enough
+          ∙ c.if-not-is_enough.true,
+      c.refuse-then-not-is_enough.ensures,
+    ) refl
 
 pub returns-then-not-effect : goal.returns-then-not-effect
 unfolding packet_of packet_row refusal
 returns-then-not-effect c =
     let effect = c in
-    rw (from4 (goal.at.returns-then-not-effect c).Else-not-is_enough, any-is (goal.at.returns-then-not-effect c).After-effect_of-effect ∙ not-true _ c.if-not-effect.true, c.refuse-then-not-effect.ensures) refl
+    rw (
+      from4 (goal.at.returns-then-not-effect c).Else-not-is_enough,
+      any-is (goal.at.returns-then-not-effect c).After-effect_of-effect
+          ∙ not-true _ c.if-not-effect.true,
+      c.refuse-then-not-effect.ensures,
+    ) refl
 
 pub returns-then-run-lt-REPLY_ROOM : goal.returns-then-run-lt-REPLY_ROOM
 unfolding packet_of packet_row refusal
-returns-then-run-lt-REPLY_ROOM c = rw (from5 (goal.at.returns-then-run-lt-REPLY_ROOM c).Else-not-effect, lt-leb _ _ c.if-run-lt-REPLY_ROOM.true, c.refuse-then-run-lt-REPLY_ROOM.ensures) refl
+returns-then-run-lt-REPLY_ROOM c = rw
+    (from5 (goal.at.returns-then-run-lt-REPLY_ROOM c).Else-not-effect, lt-leb _ _ c.if-run-lt-REPLY_ROOM.true, c.refuse-then-run-lt-REPLY_ROOM.ensures) refl
 
 -- all came that the kind needs
 came : (c : Else-not-is_enough) → let k = c in
@@ -146,14 +170,18 @@ own : (c : After-step-number) → let s = s6 (up-Else-not-effect _ _ _ c.before.
     let b = s.args.recv.now in
     let c' = s.args.send.now in
     both_of c.kind_of-kind.result (P s) b c' ≡ both_of (kind (P s)) (P s) b c'
-own c = let s = s6 (up-Else-not-effect _ _ _ c.before.before.before.before.before.before.before) in ap (λ (k : Kind). both_of k (P s) s.args.recv.now s.args.send.now) (kind-is (up-After-kind_of-kind _ _ _ c.before.before.before.before.before.before.before.before.before.before.before.before))
+own c = let s = s6 (up-Else-not-effect _ _ _ c.before.before.before.before.before.before.before) in
+    ap (λ (k : Kind). both_of k (P s) s.args.recv.now s.args.send.now)
+    (kind-is (up-After-kind_of-kind _ _ _ c.before.before.before.before.before.before.before.before.before.before.before.before))
 
 pub returns-then-number-ne-DONE : goal.returns-then-number-ne-DONE
 unfolding packet_of packet_row refusal
 returns-then-number-ne-DONE c =
     let step = c in
     let room = step in
-    rw (from6 (goal.at.returns-then-number-ne-DONE c).Else-run-lt-REPLY_ROOM, c.refuse-then-number-ne-DONE.ensures) (step-out (P (s6 (goal.at.returns-then-number-ne-DONE c).Else-not-effect)) _ _ _ (step.step-number.ensures ∙ own (goal.at.returns-then-number-ne-DONE c).After-step-number) c.if-number-ne-DONE.true)
+    rw (from6 (goal.at.returns-then-number-ne-DONE c).Else-run-lt-REPLY_ROOM, c.refuse-then-number-ne-DONE.ensures)
+    (step-out (P (s6 (goal.at.returns-then-number-ne-DONE c).Else-not-effect)) _ _ _
+    (step.step-number.ensures ∙ own (goal.at.returns-then-number-ne-DONE c).After-step-number) c.if-number-ne-DONE.true)
 
 pub reply-length-requires : goal.reply-length-requires
 reply-length-requires c =

@@ -77,7 +77,8 @@ labelled-label-requires c =
 abbrev said : After-id-id → carried.Label
 said c = let p = P c in record { id = asked p; source = p.from; destination = p.to; reply = is_reply p; total = init_length p.frame }
 
-label_is : (c : After-labelled-label) → c.labelled-label.result ≡ said (up-After-id-id _ _ _ c.before.before.before.before.before.before.before.before.before.before)
+label_is : (c : After-labelled-label) → c.labelled-label.result
+    ≡ said (up-After-id-id _ _ _ c.before.before.before.before.before.before.before.before.before.before)
 label_is c =
     let total = c in
     let reply = total in
@@ -108,7 +109,8 @@ init-requires c =
         id = n.id;
         source = n.source;
         destination = n.destination;
-        total = subst (λ (x : ℕ). x < number_limit) (sym (ap (λ (l : carried.Label). l.total) (label_is (goal.at.init-requires c).After-labelled-label))) (number_lt f 12 8 (omega (arith, all)) y);
+        total = subst (λ (x : ℕ). x < number_limit) (sym (ap (λ (l : carried.Label). l.total) (label_is (goal.at.init-requires c).After-labelled-label)))
+            (number_lt f 12 8 (omega (arith, all)) y);
         topic = (
           omega (arith, ap length c.topic.ensures, length-part-le f 21 (init_topic_size f), byte-lt f 20 (omega (arith, all)) y),
           subst Bytes (sym c.topic.ensures) (bytes-part f 21 (init_topic_size f) y),
@@ -168,21 +170,24 @@ unfolding kind_row recv_step send_step
 returns-in-Read c =
     let told = c in
     let id = told in
-    sends (P (goal.at.returns-in-Read c).After-id-id) (stores (goal.at.returns-in-Read c).After-id-id) Read told.in-Read.is refl (rw (← id.id-id.ensures) c.advance.ensures)
+    sends (P (goal.at.returns-in-Read c).After-id-id) (stores (goal.at.returns-in-Read c).After-id-id) Read told.in-Read.is refl
+    (rw (← id.id-id.ensures) c.advance.ensures)
 
 pub returns-in-Aborted : goal.returns-in-Aborted
 unfolding kind_row recv_step send_step
 returns-in-Aborted c =
     let told = c in
     let id = told in
-    receives (P (goal.at.returns-in-Aborted c).After-id-id) (stores (goal.at.returns-in-Aborted c).After-id-id) Aborted told.in-Aborted.is refl (rw (← id.id-id.ensures) c.abort.ensures)
+    receives (P (goal.at.returns-in-Aborted c).After-id-id) (stores (goal.at.returns-in-Aborted c).After-id-id) Aborted told.in-Aborted.is refl
+    (rw (← id.id-id.ensures) c.abort.ensures)
 
 pub returns-in-AckInit : goal.returns-in-AckInit
 unfolding kind_row recv_step send_step
 returns-in-AckInit c =
     let told = c in
     let id = told in
-    sends (P (goal.at.returns-in-AckInit c).After-id-id) (stores (goal.at.returns-in-AckInit c).After-id-id) AckInit told.in-AckInit.is refl (rw (← id.id-id.ensures) c.advance-in-AckInit.ensures)
+    sends (P (goal.at.returns-in-AckInit c).After-id-id) (stores (goal.at.returns-in-AckInit c).After-id-id) AckInit told.in-AckInit.is refl
+    (rw (← id.id-id.ensures) c.advance-in-AckInit.ensures)
 
 pub returns-in-AckChunk : goal.returns-in-AckChunk
 unfolding kind_row recv_step send_step
@@ -198,7 +203,8 @@ unfolding kind_row recv_step send_step
 returns-in-AckDone c =
     let told = c in
     let id = told in
-    sends (P (goal.at.returns-in-AckDone c).After-id-id) (stores (goal.at.returns-in-AckDone c).After-id-id) AckDone told.in-AckDone.is refl (rw (← id.id-id.ensures) c.advance-in-AckDone.ensures)
+    sends (P (goal.at.returns-in-AckDone c).After-id-id) (stores (goal.at.returns-in-AckDone c).After-id-id) AckDone told.in-AckDone.is refl
+    (rw (← id.id-id.ensures) c.advance-in-AckDone.ensures)
 
 pub returns-in-Nothing : goal.returns-in-Nothing
 unfolding kind_row refusal

@@ -52,12 +52,14 @@ pub returns-then-state-ne-IN_PROGRESS : goal.returns-then-state-ne-IN_PROGRESS
 unfolding rec_of
 returns-then-state-ne-IN_PROGRESS c =
     let read = c in
-    rw (from18 (goal.at.returns-then-state-ne-IN_PROGRESS c).Else-send-link-eq0 ∙ stop _ _ _ (ne_eqb _ _ (λ z. c.if-state-ne-IN_PROGRESS.true (read.state.ensures ∙ z))))
+    rw (from18 (goal.at.returns-then-state-ne-IN_PROGRESS c).Else-send-link-eq0
+    ∙ stop _ _ _ (ne_eqb _ _ (λ z. c.if-state-ne-IN_PROGRESS.true (read.state.ensures ∙ z))))
 
 pub returns-then-index-count_pieces : goal.returns-then-index-count_pieces
 returns-then-index-count_pieces c =
     let count = c in
-    rw (from19 (goal.at.returns-then-index-count_pieces c).Else-state-ne-IN_PROGRESS ∙ stop _ _ _ (ap (ltb _) (sym count.count_pieces.ensures) ∙ le-ltb _ _ c.if-index-count_pieces.true))
+    rw (from19 (goal.at.returns-then-index-count_pieces c).Else-state-ne-IN_PROGRESS
+    ∙ stop _ _ _ (ap (ltb _) (sym count.count_pieces.ensures) ∙ le-ltb _ _ c.if-index-count_pieces.true))
 
 pub ack-requires : goal.ack-requires
 ack-requires c =
@@ -72,7 +74,8 @@ returns c =
     let going = count in
     let met = going in
     rw (
-      from19 (goal.at.returns c).Else-state-ne-IN_PROGRESS ∙ next _ _ _ (ap (ltb _) (sym count.count_pieces.ensures) ∙ lt-ltb _ _ fits.if-index-count_pieces.false) ∙ clear,
+      from19 (goal.at.returns c).Else-state-ne-IN_PROGRESS
+          ∙ next _ _ _ (ap (ltb _) (sym count.count_pieces.ensures) ∙ lt-ltb _ _ fits.if-index-count_pieces.false) ∙ clear,
       rw (own_key (searched (goal.at.returns c).After-find_held-link) met.if-send-link-eq0.false) at acked.ack.ensures,
     )
 

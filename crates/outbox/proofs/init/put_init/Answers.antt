@@ -22,7 +22,8 @@ labelled-label-requires c =
     (rw from.id.ensures z.id.0, rw from.source.ensures z.source.0, rw to.destination.ensures z.destination.0)
 
 pub put_init-requires : goal.put_init-requires
-put_init-requires c = let t = c in (omega (arith, short (goal.at.put_init-requires c).After-topic-topic), omega (arith, short (goal.at.put_init-requires c).After-topic-topic, t.requires.1))
+put_init-requires c = let t = c in
+    (omega (arith, short (goal.at.put_init-requires c).After-topic-topic), omega (arith, short (goal.at.put_init-requires c).After-topic-topic, t.requires.1))
 
 pub returns : goal.returns
 unfolding rec_of

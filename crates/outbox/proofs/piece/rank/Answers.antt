@@ -58,11 +58,14 @@ overflow_add-result c =
     let p = c in
     let a = p in
     let s = (cell (goal.at.overflow_add-result c).After-passed).stamp + resend_after in
-    let due = split (eqb (cell (goal.at.overflow_add-result c).After-passed).state piece_sent) (leb s a.args.clock) (is-due (goal.at.overflow_add-result c).After-passed true c.if-state-passed.true) in
+    let due = split (eqb (cell (goal.at.overflow_add-result c).After-passed).state piece_sent) (leb s a.args.clock)
+    (is-due (goal.at.overflow_add-result c).After-passed true c.if-state-passed.true) in
     omega (arith, leb-true s a.args.clock due.1, stamp-at (goal.at.overflow_add-result c).After-passed, a.ranges.clock.fits)
 
 pub returns-then-state-passed : goal.returns-then-state-passed
-returns-then-state-passed c = let p = c in rw (not-started (goal.at.returns-then-state-passed c).After-passed, is-due (goal.at.returns-then-state-passed c).After-passed true c.if-state-passed.true) (omega (arith, stamp-at (goal.at.returns-then-state-passed c).After-passed))
+returns-then-state-passed c = let p = c in
+    rw (not-started (goal.at.returns-then-state-passed c).After-passed, is-due (goal.at.returns-then-state-passed c).After-passed true c.if-state-passed.true)
+    (omega (arith, stamp-at (goal.at.returns-then-state-passed c).After-passed))
 
 pub returns : goal.returns
 returns c = let p = c in rw (not-started (goal.at.returns c).After-passed, is-due (goal.at.returns c).After-passed false c.if-state-passed.false)

@@ -14,12 +14,16 @@ bytes c i = (c.type_inv.bytes i).fits
 pub open_leaving-requires : goal.open_leaving-requires
 open_leaving-requires c =
     let cut = c in
-    let s = cut in
-    (rw cut.cut.ensures (cut-openable _ (store (goal.at.open_leaving-requires c).After-cut) _ _ s.requires.pushable (bytes (goal.at.open_leaving-requires c).After-cut) _ _ s.requires.created_lt_number_limit.0 s.requires.created_lt_number_limit.1), fine-fields s.requires.pushable.fine)
+    let s = cut in (
+      rw cut.cut.ensures (cut-openable _ (store (goal.at.open_leaving-requires c).After-cut) _ _ s.requires.pushable
+          (bytes (goal.at.open_leaving-requires c).After-cut) _ _ s.requires.created_lt_number_limit.0 s.requires.created_lt_number_limit.1),
+      fine-fields s.requires.pushable.fine,
+    )
 
 pub returns : goal.returns
 returns c =
     let cut = c in
     let s = cut in
-    push-opened _ (store (goal.at.returns c).After-cut) _ _ s.requires.pushable (bytes (goal.at.returns c).After-cut) _ _ s.requires.created_lt_number_limit.0 s.requires.created_lt_number_limit.1 _ _ _
+    push-opened _ (store (goal.at.returns c).After-cut) _ _ s.requires.pushable
+    (bytes (goal.at.returns c).After-cut) _ _ s.requires.created_lt_number_limit.0 s.requires.created_lt_number_limit.1 _ _ _
     cut.cut.ensures cut.first_place-cell.ensures c.open_leaving.ensures

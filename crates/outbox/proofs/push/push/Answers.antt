@@ -110,4 +110,13 @@ returns c =
     let free = held in
     let s = begun (goal.at.returns c).Else-number-ne-DONE in
     let flag = s.args.label.reply in
-    rw (clear (goal.at.returns c).Else-number-ne-DONE, flag-label flag, c.sent.ensures, ← init-long s, ← s.requires.2, held.hold.ensures, put.put_init.ensures, flag-packet flag)
+    rw (
+      clear (goal.at.returns c).Else-number-ne-DONE,
+      flag-label flag,
+      c.sent.ensures,
+      ← init-long s,
+      ← s.requires.2,
+      held.hold.ensures,
+      put.put_init.ensures,
+      flag-packet flag,
+    )

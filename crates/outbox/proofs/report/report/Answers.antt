@@ -41,7 +41,8 @@ pub returns-then-send-link-eq0 : goal.returns-then-send-link-eq0
 returns-then-send-link-eq0 c =
     let at = c in
     let h = searched (goal.at.returns-then-send-link-eq0 c).After-find_held-link in
-    let e : row (goal.at.returns-then-send-link-eq0 c).Start ≡ 8 = from8 (goal.at.returns-then-send-link-eq0 c).Else-out-lt-ROOM ∙ sym (number_is h _ (none-met (ended h) _ c.if-send-link-eq0.true)) in
+    let e : row (goal.at.returns-then-send-link-eq0 c).Start ≡ 8 = from8 (goal.at.returns-then-send-link-eq0 c).Else-out-lt-ROOM
+    ∙ sym (number_is h _ (none-met (ended h) _ c.if-send-link-eq0.true)) in
     rw (e, c.refuse-then-send-link-eq0.ensures)
 
 pub put_report-requires : goal.put_report-requires

@@ -28,7 +28,8 @@ returns-then-state-eq-INIT c =
     let read = init in
     let mark = read in
     rw (none.0, none.1)
-    (woke-init (found (goal.at.returns-then-state-eq-INIT c).After-slice_known-1) _ mark.timed_out.ensures read.if-timed_out-eq1.false read.state-state.ensures init.if-state-eq-INIT.true put.put_init.ensures)
+    (woke-init (found (goal.at.returns-then-state-eq-INIT c).After-slice_known-1) _ mark.timed_out.ensures read.if-timed_out-eq1.false
+    read.state-state.ensures init.if-state-eq-INIT.true put.put_init.ensures)
 
 pub progress-requires : goal.progress-requires
 progress-requires c = let k = c in (found (goal.at.progress-requires c).After-slice_known-1, k.requires.1)
@@ -39,7 +40,9 @@ returns-then-state-eq-IN_PROGRESS c =
     let going = went in
     let read = going in
     let mark = read in
-    woke-progress (found (goal.at.returns-then-state-eq-IN_PROGRESS c).After-slice_known-1) _ mark.timed_out.ensures read.if-timed_out-eq1.false read.state-state.ensures going.if-state-eq-IN_PROGRESS.true
+    woke-progress (found
+    (goal.at.returns-then-state-eq-IN_PROGRESS c).After-slice_known-1) _ mark.timed_out.ensures read.if-timed_out-eq1.false read.state-state.ensures
+    going.if-state-eq-IN_PROGRESS.true
     went.progress.ensures
 
 pub returns : goal.returns
@@ -49,7 +52,8 @@ returns c =
     let mark = read in
     let none = c.other-2.ensures in
     rw (none.0, none.1)
-    (woke-settled (found (goal.at.returns c).After-slice_known-1) _ mark.timed_out.ensures read.if-timed_out-eq1.false read.state-state.ensures other.if-state-eq-INIT.false
+    (woke-settled (found
+    (goal.at.returns c).After-slice_known-1) _ mark.timed_out.ensures read.if-timed_out-eq1.false read.state-state.ensures other.if-state-eq-INIT.false
     other.if-state-eq-IN_PROGRESS.false)
 
 pub timed_out-requires : goal.timed_out-requires

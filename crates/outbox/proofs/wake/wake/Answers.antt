@@ -78,7 +78,8 @@ pub returns-then-send-link-eq0 : goal.returns-then-send-link-eq0
 returns-then-send-link-eq0 c =
     let at = c in
     let h = searched (goal.at.returns-then-send-link-eq0 c).After-find_held-link in
-    let e : row (start (goal.at.returns-then-send-link-eq0 c).After-find_held-link) ≡ 8 = from8 (goal.at.returns-then-send-link-eq0 c).Else-run-room ∙ sym (number_is h _ (none-met (ended h) _ c.if-send-link-eq0.true)) in
+    let e : row (start (goal.at.returns-then-send-link-eq0 c).After-find_held-link) ≡ 8 = from8 (goal.at.returns-then-send-link-eq0 c).Else-run-room
+    ∙ sym (number_is h _ (none-met (ended h) _ c.if-send-link-eq0.true)) in
     rw (e, c.refuse-then-send-link-eq0.ensures)
 
 pub wake_record-sent-requires : goal.wake_record-sent-requires
@@ -98,6 +99,7 @@ returns c =
     let some = there.if-send-link-eq0.false in
     let at = there in
     let h = searched (goal.at.returns c).After-find_held-link in
-    let e : row (start (goal.at.returns c).After-find_held-link) ≡ 0 = from8 (goal.at.returns c).Else-run-room ∙ sym (number_is h _ (sym (asks-met (ended h) _ some ∙ clear))) in
+    let e : row (start (goal.at.returns c).After-find_held-link) ≡ 0 = from8 (goal.at.returns c).Else-run-room
+    ∙ sym (number_is h _ (sym (asks-met (ended h) _ some ∙ clear))) in
     let w = rw (own_key h some, ← found_some role_send _ h.bytes h.sound _ _ h.is some) at woke.wake_record-sent.ensures in
     rw (e, c.sent.ensures, w.starts.ends, w.counts, w.store, w.starts.out)

@@ -22,8 +22,13 @@ returns-then-flags-ne0-5 c =
     let done = read in
     let chunk = done in
     let init = chunk in
-    simp
-    (eq-eqb _ _ init.if-flags-ne0.false, eq-eqb _ _ chunk.if-flags-ne0-2.false, eq-eqb _ _ done.if-flags-ne0-3.false, eq-eqb _ _ read.if-flags-ne0-4.false, ne_eqb _ _ c.if-flags-ne0-5.true)
+    simp (
+      eq-eqb _ _ init.if-flags-ne0.false,
+      eq-eqb _ _ chunk.if-flags-ne0-2.false,
+      eq-eqb _ _ done.if-flags-ne0-3.false,
+      eq-eqb _ _ read.if-flags-ne0-4.false,
+      ne_eqb _ _ c.if-flags-ne0-5.true,
+    )
 
 pub returns : goal.returns
 returns c =
@@ -31,5 +36,10 @@ returns c =
     let done = read in
     let chunk = done in
     let init = chunk in
-    simp
-    (eq-eqb _ _ init.if-flags-ne0.false, eq-eqb _ _ chunk.if-flags-ne0-2.false, eq-eqb _ _ done.if-flags-ne0-3.false, eq-eqb _ _ read.if-flags-ne0-4.false, eq-eqb _ _ c.if-flags-ne0-5.false)
+    simp (
+      eq-eqb _ _ init.if-flags-ne0.false,
+      eq-eqb _ _ chunk.if-flags-ne0-2.false,
+      eq-eqb _ _ done.if-flags-ne0-3.false,
+      eq-eqb _ _ read.if-flags-ne0-4.false,
+      eq-eqb _ _ c.if-flags-ne0-5.false,
+    )

@@ -42,7 +42,8 @@ loop-at-preserved c =
     let small = lay in
     let test = small in
     let loop = test in
-    cut_on (given (goal.at.loop-at-preserved c).After-shared_slice_known-1) loop.loop-at.invariant test.loop-at-test.true small.small.ensures.0 lay.lay-free.ensures.0 lay.lay-free.ensures.1
+    cut_on (given (goal.at.loop-at-preserved c).After-shared_slice_known-1) loop.loop-at.invariant test.loop-at-test.true small.small.ensures.0
+    lay.lay-free.ensures.0 lay.lay-free.ensures.1
 
 pub copy_in-requires : goal.copy_in-requires
 copy_in-requires c =

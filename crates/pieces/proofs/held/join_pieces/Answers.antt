@@ -32,5 +32,8 @@ pub returns : goal.returns
 returns c =
     let join = c in
     let first = join in
-    let out = first.args.out.now in
-    (join.join.ensures.0 ∙ ap sizes (same (goal.at.returns c).After-first_cell), join.join.ensures.1 ∙ ap (λ (l : List Cell). put out 0 (joined l)) (same (goal.at.returns c).After-first_cell))
+    let out = first.args.out.now in (
+      join.join.ensures.0 ∙ ap sizes (same (goal.at.returns c).After-first_cell),
+      join.join.ensures.1
+          ∙ ap (λ (l : List Cell). put out 0 (joined l)) (same (goal.at.returns c).After-first_cell),
+    )

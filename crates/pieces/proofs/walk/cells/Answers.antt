@@ -29,8 +29,11 @@ bounds-store-row c = let m = here (goal.at.bounds-store-row c).After-cell_at-row
 pub loop-n-preserved : goal.loop-n-preserved
 loop-n-preserved c =
     let row = c in
-    let inv = row.loop-n.invariant in
-    (added_more ones inv.0 (omega arith) (here (goal.at.loop-n-preserved c).After-cell_at-row) row.cell_at-row.ensures c.small-place.ensures.0 refl, omega (arith, inv.1))
+    let inv = row.loop-n.invariant in (
+      added_more ones inv.0 (omega arith) (here (goal.at.loop-n-preserved c).After-cell_at-row) row.cell_at-row.ensures c.small-place.ensures.0 refl,
+      omega
+          (arith, inv.1),
+    )
 
 pub returns : goal.returns
 returns c =

@@ -43,7 +43,8 @@ loop-n-preserved c =
     let state = l.args.state in
     let gives = same.same-found.ensures.0 ∙ ap (λ (o : ℕ). one (eqb state (get_or b (o + 12) 0))) row.cell_at-row.ensures
     ∙ ap (λ (k : ℕ). one (eqb state k)) (sym (piece-state b l.loop-n.place)) in (
-      added_more (states state) l.loop-n.invariant.0 (omega arith) (here (goal.at.loop-n-preserved c).After-cell_at-row) row.cell_at-row.ensures c.small-place.ensures.0 gives,
+      added_more (states state) l.loop-n.invariant.0 (omega arith)
+          (here (goal.at.loop-n-preserved c).After-cell_at-row) row.cell_at-row.ensures c.small-place.ensures.0 gives,
       omega (arith, l.loop-n.invariant.1, same.same-found.ensures.1),
     )
 

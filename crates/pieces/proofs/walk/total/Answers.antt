@@ -23,7 +23,9 @@ read : (c : After-get16-sum) → let l = c in
     Piece l.args.store.now l.loop-n.place c.cell_at-row.result c.get16-sum.result
 read c =
     let l = c in
-    piece-here l.requires.0 (met l.requires.0 l.loop-n.invariant.0.leads c.if-place-eq0.false c.cell_at-row.ensures).some l.loop-n.invariant.0.leads c.cell_at-row.ensures c.get16-sum.ensures.0
+    piece-here l.requires.0
+    (met l.requires.0 l.loop-n.invariant.0.leads c.if-place-eq0.false c.cell_at-row.ensures).some l.loop-n.invariant.0.leads c.cell_at-row.ensures
+    c.get16-sum.ensures.0
 
 pub returns-then-place-eq0 : goal.returns-then-place-eq0
 returns-then-place-eq0 c = added-end sums c.loop-n.invariant.0 c.if-place-eq0.true

@@ -17,13 +17,20 @@ held s = label_of (row_in s.args.store.now s.args.link)
 abbrev said : Start → Label
 said s = new_label s.args.label s.args.topic.now
 
-sources : (c : After-equal-from) → let s = c in c.equal-from.result ≡ same (held c.before.before.before.before.before.before.before.before).source (said c.before.before.before.before.before.before.before.before).source
+sources : (c : After-equal-from) → let s = c in
+    c.equal-from.result ≡ same (held c.before.before.before.before.before.before.before.before).source
+    (said c.before.before.before.before.before.before.before.before).source
 sources c = rw (← c.source.ensures) c.equal-from.ensures
 
-destinations : (c : After-equal-to) → let s = c in c.equal-to.result ≡ same (held c.before.before.before.before.before.before.before.before.before.before.before).destination (said c.before.before.before.before.before.before.before.before.before.before.before).destination
+destinations : (c : After-equal-to) → let s = c in
+    c.equal-to.result ≡ same (held c.before.before.before.before.before.before.before.before.before.before.before).destination
+    (said c.before.before.before.before.before.before.before.before.before.before.before).destination
 destinations c = rw (← c.destination.ensures) c.equal-to.ensures
 
-topics : (c : After-equal-about) → let s = c in c.equal-about.result ≡ same (held c.before.before.before.before.before.before.before.before.before.before.before.before.before.before.before).topic (said c.before.before.before.before.before.before.before.before.before.before.before.before.before.before.before).topic
+topics : (c : After-equal-about) → let s = c in
+    c.equal-about.result
+    ≡ same (held c.before.before.before.before.before.before.before.before.before.before.before.before.before.before.before).topic
+    (said c.before.before.before.before.before.before.before.before.before.before.before.before.before.before.before).topic
 topics c = rw (← c.topic.ensures) c.equal-about.ensures
 
 pub slice_bounds-equal-end : goal.slice_bounds-equal-end
@@ -37,5 +44,6 @@ unfolding equal_in_five
 returns c =
     let third = c in
     let s = third in
-    λ i. sources (goal.at.returns c).After-equal-from i && destinations (goal.at.returns c).After-equal-to i && eqb (third.total.ensures i) (said (goal.at.returns c).Start).total
+    λ i. sources (goal.at.returns c).After-equal-from i && destinations (goal.at.returns c).After-equal-to i && eqb (third.total.ensures i)
+    (said (goal.at.returns c).Start).total
     && topics (goal.at.returns c).After-equal-about i && eqb (c.reply.ensures i) (c.mark.ensures i)

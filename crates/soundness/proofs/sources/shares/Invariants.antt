@@ -9,7 +9,8 @@ use Rattle.soundness.proofs.sources.shares.Given as goal
 
 abbrev pub invariant-loop-n : goal.invariant-loop-n
 invariant-loop-n l =
-    Way l.s l.y l.n × (l.sum ≤ 256 * l.n) × (total (share_at l.s l.counts l.x) (onward l.s l.made l.first) ≡ l.sum + total (share_at l.s l.counts l.x) (onward l.s l.n l.y))
+    Way l.s l.y l.n × (l.sum ≤ 256 * l.n) ×
+    (total (share_at l.s l.counts l.x) (onward l.s l.made l.first) ≡ l.sum + total (share_at l.s l.counts l.x) (onward l.s l.n l.y))
 
 abbrev pub decreases-loop-n : goal.decreases-loop-n
 decreases-loop-n l = suc rec_count - l.n

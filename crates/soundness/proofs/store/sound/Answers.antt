@@ -54,7 +54,8 @@ pub returns-then-not-each : goal.returns-then-not-each
 returns-then-not-each c =
     let e = c in
     let a = e.args in
-    no_cells a.role _ (room (goal.at.returns-then-not-each c).Else-not-head) (cells_at a.role _ _ _ (cells (goal.at.returns-then-not-each c).Else-not-records) c.cells_once-each.ensures ∙ c.if-not-each.true)
+    no_cells a.role _ (room (goal.at.returns-then-not-each c).Else-not-head)
+    (cells_at a.role _ _ _ (cells (goal.at.returns-then-not-each c).Else-not-records) c.cells_once-each.ensures ∙ c.if-not-each.true)
 
 pub bounds-store-1 : goal.bounds-store-1
 bounds-store-1 c = let r = room (goal.at.bounds-store-1 c).Else-not-head in search rules
@@ -68,7 +69,9 @@ fit-a-requires c =
     let e = small in
     let f = e in
     let role = f.args.role in (
-      chained-at role _ _ _ _ (cells (goal.at.fit-a-requires c).Else-not-records) small.small-held.ensures.0 (held-chained role _ (room (goal.at.fit-a-requires c).Else-not-head) (records (goal.at.fit-a-requires c).Else-not-records) (each (goal.at.fit-a-requires c).Else-not-each)),
+      chained-at role _ _ _ _ (cells (goal.at.fit-a-requires c).Else-not-records) small.small-held.ensures.0
+          (held-chained role _ (room (goal.at.fit-a-requires c).Else-not-head) (records (goal.at.fit-a-requires c).Else-not-records)
+          (each (goal.at.fit-a-requires c).Else-not-each)),
       same_start _ _ _ small.small-whole.ensures.0 (records-inside role _ (records (goal.at.fit-a-requires c).Else-not-records)).whole,
     )
 
@@ -77,8 +80,12 @@ fit-b-requires c =
     let small = c in
     let e = small in
     let f = e in
-    let role = f.args.role in
-    (chained-at role _ _ _ _ (cells (goal.at.fit-b-requires c).Else-not-records) small.small-whole.ensures.0 (whole-chained role _ (room (goal.at.fit-b-requires c).Else-not-head) (records (goal.at.fit-b-requires c).Else-not-records) (each (goal.at.fit-b-requires c).Else-not-each)), none_inside _)
+    let role = f.args.role in (
+      chained-at role _ _ _ _ (cells (goal.at.fit-b-requires c).Else-not-records) small.small-whole.ensures.0
+          (whole-chained role _ (room (goal.at.fit-b-requires c).Else-not-head) (records (goal.at.fit-b-requires c).Else-not-records)
+          (each (goal.at.fit-b-requires c).Else-not-each)),
+      none_inside _,
+    )
 
 pub fair-fair-requires : goal.fair-fair-requires
 fair-fair-requires c =
@@ -99,6 +106,7 @@ returns c =
     let small = kind in
     let e = small in
     let f = e in
-    sound-is f.args.role _ (room (goal.at.returns c).Else-not-head) (records (goal.at.returns c).Else-not-records) (each (goal.at.returns c).Else-not-each) (head (goal.at.returns c).Else-not-head) _ _ _ held.fit-a.result whole.fit-b.result
+    sound-is f.args.role _ (room (goal.at.returns c).Else-not-head) (records (goal.at.returns c).Else-not-records) (each (goal.at.returns c).Else-not-each)
+    (head (goal.at.returns c).Else-not-head) _ _ _ held.fit-a.result whole.fit-b.result
     c.fair-fair.result _ _ kind.held_kind.ensures small.small-held.ensures.0 small.small-whole.ensures.0
     held.fit-a.ensures whole.fit-b.ensures c.fair-fair.ensures

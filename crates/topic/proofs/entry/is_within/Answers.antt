@@ -16,7 +16,8 @@ held : (b : List ℕ) (o : ℕ) (source : List ℕ) (r : Bool)
     → contains_of (subnet_at b o).net (subnet_at b o).bits source ≡ r
 unfolding part
 held b o source r h =
-    let e : address_bytes ≡ o + address_bytes - o = omega arith in ap (λ (n : ℕ). contains_of (take n (drop o b)) (get_or b (o + address_bytes) 0) source) e ∙ sym h
+    let e : address_bytes ≡ o + address_bytes - o = omega arith in
+    ap (λ (n : ℕ). contains_of (take n (drop o b)) (get_or b (o + address_bytes) 0) source) e ∙ sym h
 
 pub loop-left-init : goal.loop-left-init
 loop-left-init c =

@@ -19,9 +19,8 @@ def text(name):
     return (ROOT / name).read_text()
 
 
-def camel(words):
-    first, *rest = words.split()
-    return first + "".join(word.capitalize() for word in rest)
+def snake(words):
+    return words.replace(" ", "_")
 
 
 def pascal(words):
@@ -49,7 +48,7 @@ def answer():
 
 def codes():
     found = re.findall(r"^abbrev pub (\w+) : ℕ\n\1 = (\d+)$", text("crates/machine/specs/Codes.antt"), re.M)
-    other = re.compile(f"({'|'.join(OTHER_CODES)})[A-Z]")
+    other = re.compile(f"({'|'.join(OTHER_CODES)})_")
     return numbered((number, name) for name, number in found if not other.match(name) and number != "0")
 
 
@@ -127,7 +126,7 @@ def main():
 
     check("docs/PROTOCOL.md", "" if count and [number for number, _ in table] == list(range(1, count + 1)) else "numbers do not rise from 1")
     compare("crates/answer/src/lib.rt", answer, upper)
-    compare("crates/machine/specs/Codes.antt", codes, lambda word: camel(IN_DEFINITIONS.get(word, word)))
+    compare("crates/machine/specs/Codes.antt", codes, lambda word: snake(IN_DEFINITIONS.get(word, word)))
     compare(f"{RUST}, the enum", rust_enum, pascal)
     compare(f"{RUST}, the table", rust_table, lambda word: f"{pascal(word)}, {word}")
     compare(HEADER, header, upper)

@@ -38,7 +38,7 @@ THEOREMS = {
     ("lesson", "SettledLaws"): ["settled-empty", "pushed-empty", "round-empty"],
 }
 
-USE = re.compile(r"^(?:ghost )?use Rattle·(\w+?)(?:·specs)?\.specs\.([\w.-]+)\.\{([^}]*)\}", re.M)
+USE = re.compile(r"^(?:ghost )?use Rattle\.(?!std\.)(\w+)\.(?:specs|proofs)\.([\w.-]+)\.\{([^}]*)\}", re.M)
 START = re.compile(r"^( *)(?:(abbrev|unfoldable) )?(?:pub )?(?:(record|data) )?([^\s(){}:=]+)(?=[ :])")
 WORD = re.compile(r"[^\s()\[\]{};,.]+")
 
@@ -49,11 +49,11 @@ def read(path):
 
 
 class Module:
-    """A file of specs/: what it imports, and its declarations with their texts."""
+    """A file of specs/, or of laws in proofs/: what it imports, and its declarations with their texts."""
 
-    def __init__(self, crate, name):
+    def __init__(self, crate, folder, name):
         self.crate, self.name = crate, name
-        self.path = f"crates/{crate}/specs/{name}.antt"
+        self.path = f"crates/{crate}/{folder}/{name}.antt"
         text = read(self.path)
         self.lines = text.count("\n")
         text = re.sub(r"^use [^{}\n]*\{[^}]*\}", lambda use: " ".join(use.group(0).split()), text, flags=re.M)  # each on one line
@@ -99,7 +99,7 @@ class Module:
         text = self.signatures[name] + ("" if statement_only else " " + self.bodies[name])
         found = set()
         for word in set(WORD.findall(text)):
-            for form in (word, f"_{word}_"):
+            for form in (word, f"◌{word}◌"):
                 if form in self.kinds and form != name:
                     found.add((self.crate, self.name, form))
                 elif form in self.imports:
@@ -109,10 +109,10 @@ class Module:
 
 def modules():
     found = {}
-    for path in sorted(glob.glob(os.path.join(ROOT, "crates/*/specs/*.antt"))):
-        crate, name = re.search(r"crates/(\w+)/specs/(\w+)\.antt$", path).groups()
-        if name != "Lib":
-            found[crate, name] = Module(crate, name)
+    for path in sorted(glob.glob(os.path.join(ROOT, "crates/*/specs/*.antt")) + glob.glob(os.path.join(ROOT, "crates/*/proofs/*.antt"))):
+        crate, folder, name = re.search(r"crates/(\w+)/(specs|proofs)/(\w+)\.antt$", path).groups()
+        if name != "Lib" and (folder == "specs" or (crate, name) in THEOREMS):
+            found[crate, name] = Module(crate, folder, name)
     return found
 
 
@@ -154,7 +154,7 @@ def page(found, done, enums):
             "`classroom` and `cuts` write (`crates/{sums/src/line,lesson/src/show,cutter/src/lib}.rt`),",
             "and the top theorems that [PROOFS](PROOFS.md) names,",
             "rest on the definitions of these files and on no others.",
-            "None of them states a law: laws stand in files whose names end in `Laws`, and in crates of laws.",
+            "None of them states a law: laws stand in files whose names end in `Laws`, in crates of laws and in `proofs/`.",
             "The checker has proved that the code and the theorems meet these definitions;",
             "that they say what [PROTOCOL](PROTOCOL.md) says is for a reader to see.", "",
             f"{len(files)} files, {lines:,} lines.", "", "| file | lines | about |", "|---|---|---|"]

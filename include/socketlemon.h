@@ -6,7 +6,7 @@
  * - `id` leads to 8 bytes, `from` and `to` to 16 each: they have no length.
  * - A slice that is written (no const) does not overlap with any other argument.
  *
- * A number that means yes or no is yes when it is not 0. Link with libsocketlemon.a (`rt staticlib socketlemon`). */
+ * A number that means yes or no is yes when it is not 0. Link with libsocketlemon.a (`tools/build library socketlemon`). */
 #ifndef SOCKETLEMON_H
 #define SOCKETLEMON_H
 

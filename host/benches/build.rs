@@ -1,4 +1,4 @@
-//! Finds the archive with the library's BLAKE3, in the folder that SOCKETLEMON_LIB names, else where `rt staticlib` puts it; and asks the oracle whether the
+//! Finds the archive with the library's BLAKE3, in the folder that SOCKETLEMON_LIB names, else where `tools/build library` puts it; and asks the oracle whether the
 //! original is available.
 
 use std::path::{Path, PathBuf};
@@ -15,7 +15,7 @@ fn main() {
     println!("cargo:rerun-if-changed={}", archive.display());
     if !archive.is_file() {
         eprintln!(
-            "{} is not there: make it with `rt staticlib blake3_export` in the repository.",
+            "{} is not there: make it with `tools/build library blake3_export` in the repository.",
             archive.display()
         );
         process::exit(1);

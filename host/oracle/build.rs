@@ -1,6 +1,6 @@
 //! Finds the static library, and the original's files if they are available.
 //!
-//! The library: in the folder that SOCKETLEMON_LIB names, else where `rt staticlib` puts it. The original: in the folder that SOCKETLEMON_ORIGINAL
+//! The library: in the folder that SOCKETLEMON_LIB names, else where `tools/build library` puts it. The original: in the folder that SOCKETLEMON_ORIGINAL
 //! names, else in shared/docs/src beside the repository. Its files are copied unchanged, after their BLAKE3 sums were found to be those of original.sums;
 //! without them the crate is built without the comparison, unless a folder was named.
 
@@ -28,7 +28,7 @@ fn link_library(here: &Path) {
     println!("cargo:rerun-if-changed={}", library.display());
     if !library.is_file() {
         fail(format!(
-            "{} is not there: make it with `rt staticlib socketlemon` in the repository, or name its folder in SOCKETLEMON_LIB.",
+            "{} is not there: make it with `tools/build library socketlemon` in the repository, or name its folder in SOCKETLEMON_LIB.",
             library.display()
         ));
     }

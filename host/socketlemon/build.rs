@@ -1,4 +1,4 @@
-//! Finds the static library: in the folder that SOCKETLEMON_LIB names, else where `rt staticlib` puts it.
+//! Finds the static library: in the folder that SOCKETLEMON_LIB names, else where `tools/build library` puts it.
 
 use std::path::{Path, PathBuf};
 
@@ -13,7 +13,7 @@ fn main() {
     println!("cargo:rerun-if-changed={}", library.display());
     if !library.is_file() {
         eprintln!(
-            "{} is not there: make it with `rt staticlib socketlemon` in the repository, or name its folder in SOCKETLEMON_LIB.",
+            "{} is not there: make it with `tools/build library socketlemon` in the repository, or name its folder in SOCKETLEMON_LIB.",
             library.display()
         );
         std::process::exit(1);

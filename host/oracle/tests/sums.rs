@@ -1,5 +1,5 @@
 //! The library's BLAKE3 beside the blake3 crate, on random bytes: plain sums, keyed ones and derived keys.
-//! This needs no original, but `rt staticlib blake3_export`.
+//! This needs no original, but `tools/build library blake3_export`.
 
 use std::time::{SystemTime, UNIX_EPOCH};
 

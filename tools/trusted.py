@@ -17,6 +17,7 @@ PAGE = "docs/TRUSTED.md"
 
 # what the customer's demands are met by: the contracts of the exports, of what the programs plain_sum, classroom and cuts write, and theorems by the crate and file that prove them
 CONTRACTS = ("crates/socketlemon/src/lib.rt", "crates/sums/src/line.rt", "crates/lesson/src/show.rt", "crates/cutter/src/lib.rt")
+CONTRACTS += tuple(f"crates/{program}/src/main.rt" for program in ("plain_sum", "classroom", "cuts"))
 THEOREMS = {
     ("ledger", "DemandLaws"): ["demand3"],
     ("ledger", "InOrderLaws"): ["takes-give"],
@@ -142,7 +143,7 @@ def reached(found):
     return done, enums
 
 
-ORDER = ["octets", "answer", "blake3", "packet", "topic", "calendar", "address", "sums", "machine", "ledger", "kept", "planner", "script", "link", "lesson", "cutter"]
+ORDER = ["octets", "answer", "blake3", "packet", "topic", "calendar", "address", "sums", "machine", "ledger", "kept", "planner", "script", "link", "lesson", "cutter", "cuts"]
 
 
 def page(found, done, enums):
@@ -151,7 +152,7 @@ def page(found, done, enums):
     text = ["# What has to be believed", "",
             "Made by `tools/trusted.py`; the gate compares it with the sources.",
             "The contracts of the exports (`crates/socketlemon/src/lib.rt`) and of what the programs `plain_sum`,",
-            "`classroom` and `cuts` write (`crates/{sums/src/line,lesson/src/show,cutter/src/lib}.rt`),",
+            "`classroom` and `cuts` write (`crates/{sums/src/line,lesson/src/show,cutter/src/lib}.rt`, and `run` of each),",
             "and the top theorems that [PROOFS](PROOFS.md) names,",
             "rest on the definitions of these files and on no others.",
             "None of them states a law: laws stand in files whose names end in `Laws`, in crates of laws and in `proofs/`.",

@@ -11,9 +11,8 @@ An edit file, crates/NAME/must-fail/LABEL.edit, holds one block for each wrong p
     new: what the edit puts there
 
 A block may have several pairs of old: and new:, and several file: lines. `rt ci` and `rt must-fail` apply all blocks of a file at once and ask only that
-the crate is refused. This tool asks what each block is refused for. It applies them in a copy of the crates, in target/edits, and reads what `rt check`
-says there; a block that is not told apart from the others of its file is tried alone. Definitions rest on each other: an edit of definitions has a
-file of its own.
+the crate is refused. This tool asks what each block is refused for. It applies them in a copy of the crates and reads what `rt check` says
+there; a block that the others of its file hide is tried alone. Definitions rest on each other: an edit of definitions has a file of its own.
 
 A function is refused by itself if it is not proved, and has an error in its own proof or a goal that nothing closes. What only follows from another
 refusal does not count: a caller of a function that is not proved, and an error that blames a name ('was not admitted', 'has no field', 'can be named').
@@ -32,13 +31,13 @@ import re
 import shutil
 import subprocess
 import sys
+import tempfile
 import threading
 
 ROOT = os.path.dirname(os.path.dirname(os.path.abspath(__file__)))
 PAPER = os.path.join(ROOT, "docs", "PROOFS.md")
 START = "<!-- edits: made by tools/edits.py -->"
 END = "<!-- edits: end -->"
-COPY = os.path.join(ROOT, "target", "edits")
 LINES = ("wrong", "because", "refused", "file", "old", "new")
 # what the checker says where a declaration is refused for another's sake, or for a name that the edit took away
 FOLLOWS = ("was not admitted", "has no field", "can be named", "not in scope", "unknown name")
@@ -189,21 +188,20 @@ def read(path):
 class Trial:
     """A copy of the crates, in which edits are tried. A crate is edited only when no crate above it is tried any more."""
 
-    def __init__(self):
-        shutil.rmtree(COPY, ignore_errors=True)
-        leave = shutil.ignore_patterns("out", "must-fail")
-        shutil.copytree(os.path.join(ROOT, "crates"), os.path.join(COPY, "crates"), ignore=leave)
-        shutil.copy(os.path.join(ROOT, "crates.txt"), COPY)
+    def __init__(self, place):
+        self.crates = os.path.join(place, "crates")
+        shutil.copytree(os.path.join(ROOT, "crates"), self.crates, ignore=shutil.ignore_patterns("out", "must-fail"))
+        shutil.copy(os.path.join(ROOT, "crates.txt"), place)
 
     def check(self, crate):
         """What `rt check` says of a crate as it stands in the copy: its exit status and its words."""
         words = ["rt", "check", "--jobs", "1"]
-        ran = subprocess.run(words, cwd=os.path.join(COPY, "crates", crate), stdin=subprocess.DEVNULL, capture_output=True, text=True)
+        ran = subprocess.run(words, cwd=os.path.join(self.crates, crate), stdin=subprocess.DEVNULL, capture_output=True, text=True)
         return ran.returncode, ran.stdout + ran.stderr
 
     def tried(self, crate, blocks):
         """The log of a crate with these blocks, and why it cannot be had; the crate is put back afterwards."""
-        folder, before = os.path.join(COPY, "crates", crate), {}
+        folder, before = os.path.join(self.crates, crate), {}
         try:
             for block in blocks:
                 for path, old, new in block.changes:
@@ -284,11 +282,16 @@ def verdicts(trial, crate, label, blocks):
 
 def check(show, only):
     """Every block of these crates (of all, where none is named), tried; the tally."""
+    with tempfile.TemporaryDirectory() as place:
+        return tally(Trial(place), show, only)
+
+
+def tally(trial, show, only):
     todo = {}
     for crate, label, blocks in files():
         if not only or crate in only:
             todo.setdefault(crate, []).append((label, blocks))
-    trial, higher, done = Trial(), above(), {crate: threading.Event() for crate in todo}
+    higher, done = above(), {crate: threading.Event() for crate in todo}
     passed = failed = 0
 
     def crate_of(crate):

@@ -40,7 +40,7 @@ START = "<!-- edits: made by tools/edits.py -->"
 END = "<!-- edits: end -->"
 LINES = ("wrong", "because", "refused", "file", "old", "new")
 # what the checker says where a declaration is refused for another's sake, or for a name that the edit took away
-FOLLOWS = ("was not admitted", "has no field", "can be named", "not in scope", "unknown name")
+FOLLOWS = ("was not admitted", "was rejected", "has no field", "can be named", "not in scope", "unknown name")
 
 
 class Block:
@@ -186,7 +186,7 @@ def read(path):
 
 
 class Trial:
-    """A copy of the crates, in which edits are tried. A crate is edited only when no crate above it is tried any more."""
+    """A copy of the crates, in which edits are tried, one after the other."""
 
     def __init__(self, place):
         self.crates = os.path.join(place, "crates")
@@ -218,17 +218,6 @@ class Trial:
             for path, text in before.items():
                 with open(path, "w", encoding="utf-8") as out:
                     out.write(text)
-
-
-def above():
-    """The crates that stand on each crate, at any distance."""
-    lines = [line.split("#")[0].split(":") for line in read(os.path.join(ROOT, "crates.txt")).splitlines() if ":" in line.split("#")[0]]
-    needs = {line[0].split()[0]: line[1].split() for line in lines}
-
-    def rests(name, on):
-        return any(need == on or rests(need, on) for need in needs.get(name, ()))
-
-    return {name: {other for other in needs if rests(other, name)} for name in needs}
 
 
 def faults_of(blocks, block, log, alone):
@@ -281,37 +270,30 @@ def verdicts(trial, crate, label, blocks):
 
 
 def check(show, only):
-    """Every block of these crates (of all, where none is named), tried; the tally."""
-    with tempfile.TemporaryDirectory() as place:
-        return tally(Trial(place), show, only)
-
-
-def tally(trial, show, only):
+    """Every block of these crates (of all, where none is named), tried, in as many copies as there are processors; the tally."""
     todo = {}
     for crate, label, blocks in files():
         if not only or crate in only:
             todo.setdefault(crate, []).append((label, blocks))
-    higher, done = above(), {crate: threading.Event() for crate in todo}
     passed = failed = 0
+    with tempfile.TemporaryDirectory() as place, concurrent.futures.ThreadPoolExecutor(os.cpu_count()) as pool:
+        mine = threading.local()
 
-    def crate_of(crate):
-        for other in higher[crate] & set(done):
-            done[other].wait()
-        try:
-            status, said = trial.check(crate)
+        def crate_of(crate):
+            if not hasattr(mine, "trial"):
+                mine.trial = Trial(tempfile.mkdtemp(dir=place))
+            status, said = mine.trial.check(crate)
             if status != 0:
                 return 0, 1, [f"{crate}: FAILED: it is not proved without edits: {said.splitlines()[-1:]}"]
-            parts = [verdicts(trial, crate, label, blocks) for label, blocks in todo[crate]]
+            parts = [verdicts(mine.trial, crate, label, blocks) for label, blocks in todo[crate]]
             return sum(part[0] for part in parts), sum(part[1] for part in parts), [line for part in parts for line in part[2]]
-        finally:
-            done[crate].set()
 
-    with concurrent.futures.ThreadPoolExecutor(os.cpu_count()) as pool:
-        # those that nothing stands on first, so that no thread waits for one that has not begun
-        order = sorted(todo, key=lambda crate: len(higher[crate] & set(todo)))
-        for good, bad, lines in pool.map(crate_of, order):
+        # those with the most edits first
+        for good, bad, lines in pool.map(crate_of, sorted(todo, key=lambda crate: -len(todo[crate]))):
             passed, failed = passed + good, failed + bad
-            print("\n".join(line for line in lines if show or ": FAILED: " in line) or "", end="\n" if lines and (show or bad) else "", flush=True)
+            for line in lines:
+                if show or ": FAILED: " in line:
+                    print(line, flush=True)
     print(f"{passed} passed, {failed} failed")
     return failed == 0 and passed > 0
 

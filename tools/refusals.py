@@ -42,8 +42,14 @@ def protocol():
 
 
 def answer():
-    found = re.findall(r"^pub const (\w+): u64 = (\d+);$", text("crates/answer/src/lib.rt"), re.M)
-    return numbered((number, name) for name, number in found if name != "DONE")
+    body = re.search(r"^pub enum Refusal \{\n(.*?)^\}", text("crates/answer/src/lib.rt"), re.M | re.S).group(1)
+    return numbered((number, name) for name, number in re.findall(r"^    (\w+) = (\d+),$", body, re.M))
+
+
+def answer_numbers():
+    """The numbers that its contracts mean by the variants."""
+    found = re.findall(r"^number (\w+) = (\d+)$", text("crates/answer/specs/Answers.antt"), re.M)
+    return numbered((number, name) for name, number in found)
 
 
 def codes():
@@ -125,7 +131,8 @@ def main():
         check(what, "; ".join(lists) or ("" if sorted(found) == wanted else "something stands twice"))
 
     check("docs/PROTOCOL.md", "" if count and [number for number, _ in table] == list(range(1, count + 1)) else "numbers do not rise from 1")
-    compare("crates/answer/src/lib.rt", answer, upper)
+    compare("crates/answer/src/lib.rt", answer, pascal)
+    compare("crates/answer/specs/Answers.antt", answer_numbers, pascal)
     compare("crates/machine/specs/Codes.antt", codes, lambda word: snake(IN_DEFINITIONS.get(word, word)))
     compare(f"{RUST}, the enum", rust_enum, pascal)
     compare(f"{RUST}, the table", rust_table, lambda word: f"{pascal(word)}, {word}")

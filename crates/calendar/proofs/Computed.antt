@@ -2,7 +2,7 @@
 -- date. Assumes nothing.
 use Prim.Native.Nat.{ℕ, suc, ◌+◌, ◌*◌, ◌-◌, ◌/◌, ◌%◌, ◌≤◌, ◌<◌}
 use native.Mathlib.Omega.{arith}
-use mathlib.Core.Path.{◌≡◌, refl, ◌∙◌}
+use mathlib.Core.Path.{◌≡◌, refl, sym, ◌∙◌}
 use mathlib.Core.Bool.{Bool, true, false, cond}
 use lib.Dec.{eqb, ltb}
 use borrow.Author.Tests.{eq-eqb, eqb-true, ltb-true, ltb-false}
@@ -140,3 +140,11 @@ pub spot-last : {day year month left n : ℕ} → Spot day year month left → n
 spot-last {day} {year} {month} {left} {n} s f h =
     let e : n ≡ months (suc s.k) s.m = f ∙ (λ i. month_days (s.of-year i) (s.of-month i)) in
     unique (is s.k s.m left s.of-year s.of-month (omega arith) s.low (omega arith) s.number) (dated day)
+
+-- in December they are
+pub spot-end : {day year month left : ℕ} → Spot day year month left → december ≤ month → date year december (left + 1) ≡ date_of day
+spot-end {day} {year} {month} {left} s h =
+    let m : s.m ≡ 11 = omega (arith, s.low, s.of-month) in
+    let q : month ≡ december = omega (arith, s.of-month) in
+    let n : month_days (suc s.k) december ≡ month_days year month = λ i. month_days (sym s.of-year i) (sym q i) in
+    rw (← q) (spot-last s n (omega (arith, year-end s.k, rw m at s.inside)))

@@ -115,10 +115,6 @@ month-some y m =
     (λ e. rw e (cases (leap y) (λ f. rw f (omega arith)) (λ f. rw f (omega arith))))
     (λ e. rw e (cases (thirty m) (λ f. rw f (omega arith)) (λ f. rw f (omega arith))))
 
--- a month has days, whoever counts them
-pub some-days : (y m n : ℕ) → n ≡ month_days y m → 0 < n
-some-days y m n e = omega (arith, e, month-some y m)
-
 -- a quotient grows by one where the remainder comes back to 0
 up : (d k : ℕ) → (suc k % d ≡ 0 → suc k / d ≡ k / d + 1) → ((suc k % d ≡ 0 → ⊥) → suc k / d ≡ k / d)
     → suc k / d ≡ k / d + one (eqb (suc k % d) 0)

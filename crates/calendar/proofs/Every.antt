@@ -1,40 +1,27 @@
--- Laws of `every`: what a loop over a test keeps and finds. And what a well-formed calendar tells of its length. Assumes nothing.
-use Prim.Native.Nat.{ℕ, zero, suc, ◌+◌, ◌≤◌, ◌<◌}
-use native.Mathlib.Numerals.{add-one}
-use native.Mathlib.Omega.{arith}
-use mathlib.Core.Path.{◌≡◌, refl}
-use mathlib.Core.Bool.{Bool, true, false, and-false}
-use mathlib.Core.List.{List}
-use lib.ListN.{length}
-use lib.Dec.{ltb}
-use borrow.Author.Tests.{ltb-true, ltb-false, eqb-true}
-use Rattle.octets.specs.BoolsLaws.{cases, clash}
-use Rattle.calendar.specs.Calendar.{every, number, closed_at, exact, well_formed}
-use Rattle.calendar.specs.Asked.{Sized}
+-- What `all` of a range says is `every`. Assumes nothing.
+use Rattle.std.proofs.Common.{ℕ, zero, suc, ◌+◌, ◌≡◌, refl, sym, ap, ◌∙◌, Bool, true, false, ◌&&◌, arith}
+use mathlib.Core.Bool.{and-true}
+use Rattle.std.specs.List.{list_all, range_with_len}
+use Rattle.calendar.specs.Calendar.{every}
 
--- the first i pass, i of n at most
-abbrev pub Passed : (ℕ → Bool) → ℕ → ℕ → Type 0
-Passed f n i = (i ≤ n) × (every f i ≡ true)
+and_assoc : (p q r : Bool) → (p && q && r) ≡ (p && (q && r))
+and_assoc true q r = refl
+and_assoc false q r = refl
 
-pub passed_none : (f : ℕ → Bool) (n : ℕ) → Passed f n 0
+-- one more at the front
+every-first : (f : ℕ → Bool) (n : ℕ) → every f (suc n) ≡ (f 0 && every (λ i. f (suc i)) n)
 unfolding every
-passed_none f n = (omega arith, refl)
+every-first f zero = sym (and-true (f 0))
+every-first f (suc n) = ap (λ (b : Bool). b && f (suc n)) (every-first f n) ∙ and_assoc (f 0) _ _
 
-pub passed-more : (f : ℕ → Bool) {n i : ℕ} → Passed f n i → i < n → f i ≡ true → Passed f n (i + 1)
+-- the n numbers from a on
+from : (f : ℕ → Bool) (n a : ℕ) → list_all f (range_with_len a n) ≡ every (λ i. f (a + i)) n
 unfolding every
-passed-more f {n} {i} p h e = (omega arith, rw (add-one i, p.1, e))
+from f zero a = refl
+from f (suc n) a =
+    let e : (i : ℕ) → a + 1 + i ≡ a + suc i = λ i. omega arith in
+    let z : a ≡ a + 0 = omega arith in
+    ap (λ (b : Bool). f a && b) (from f n (a + 1)) ∙ (λ j. f (z j) && every (λ i. f (e i j)) n) ∙ sym (every-first (λ i. f (a + i)) n)
 
-pub passed-all : (f : ℕ → Bool) {n i : ℕ} → Passed f n i → n ≤ i → true ≡ every f n
-passed-all f {n} {i} p h = let q : n ≡ i = omega arith in rw (q, p.1)
-
-pub failed : (f : ℕ → Bool) (n i : ℕ) → i < n → f i ≡ false → false ≡ every f n
-unfolding every
-failed f (suc n) i h e =
-    cases (ltb i n)
-    (λ t. rw (← failed f n i (ltb-true i n t) e))
-    (λ t. let q : n ≡ i = omega (arith, ltb-false i n t) in rw (q, e, and-false))
-failed f zero i h e = elim h [ ]
-
-pub formed-sized : (b : List ℕ) → well_formed b ≡ true → Sized b
-unfolding well_formed
-formed-sized b h = cases (exact b) (λ e. eqb-true (length b) (closed_at (number b)) e) (λ e. clash h (rw e))
+pub every-range : (f : ℕ → Bool) (n : ℕ) → list_all f (range_with_len 0 n) ≡ every f n
+every-range f n = let e : (i : ℕ) → 0 + i ≡ i = λ i. omega arith in from f n 0 ∙ (λ j. every (λ i. f (e i j)) n)

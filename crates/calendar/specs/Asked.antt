@@ -1,4 +1,4 @@
--- What functions ask of the bytes that they are given.
+-- What is known of the bytes that the code takes for a calendar.
 use Rattle.std.specs.Prelude.{ℕ, ◌≡◌, List, length}
 use Rattle.calendar.specs.Calendar.{number, closed_at}
 

@@ -29,8 +29,9 @@ const DAYS_OF_400: u64 = 146097;
 
 const DAYS_OF_4: u64 = 1461;
 
-// A date; months and days of a month count from 1.
-#[derive(Clone, Copy)]
+// A date; months and days of a month count from 1. A month is a number, since one that is read from bytes may be
+// none of the twelve: `exists` tells.
+#[derive(Clone, Copy, Debug, PartialEq, Eq)]
 pub struct Date {
     pub year: u64,
     pub month: u64,
@@ -38,39 +39,36 @@ pub struct Date {
 }
 
 // Whether a year has a 29 February.
+#[tactic(auto, unfolding(crate::specs::Days::leap))]
 fn leap(year: u64) -> bool
     ensures { result ≡ leap year }
 {
-    (year % 4 == 0) & ((year % 100 != 0) | (year % 400 == 0))
+    year % 4 == 0 && (year % 100 != 0 || year % 400 == 0)
 }
 
 // How many days a month has.
+#[tactic(auto, unfolding(crate::specs::Days::month_days))]
 fn month_days(year: u64, month: u64) -> u64
     ensures { result ≡ month_days year month }
 {
-    if month == FEBRUARY {
-        if leap(year) {
-            return 29;
-        }
-        return 28;
+    match month {
+        FEBRUARY if leap(year) => 29,
+        FEBRUARY => 28,
+        APRIL | JUNE | SEPTEMBER | NOVEMBER => 30,
+        _ => 31,
     }
-    if (month == APRIL) | (month == JUNE) | (month == SEPTEMBER) | (month == NOVEMBER) {
-        return 30;
-    }
-    31
 }
 
 // Whether a date exists.
 pub fn exists(date: Date) -> bool
     ensures { result ≡ exists date }
 {
-    (JANUARY <= date.month)
-        & (date.month <= DECEMBER)
-        & (1 <= date.day)
-        & (date.day <= month_days(date.year, date.month))
+    (JANUARY..=DECEMBER).contains(&date.month)
+        && (1..=month_days(date.year, date.month)).contains(&date.day)
 }
 
-// The weekday of a day, 0 for Monday to 6 for Sunday.
+// The weekday of a day, 0 for Monday to 6 for Sunday: the place of its window in a calendar.
+#[tactic(auto, using(crate::proofs::Counting::weekday))]
 pub fn weekday_of(day: u64) -> usize
     ensures { (result ≡ weekday_of day) × (result < week_days) }
 {
@@ -87,11 +85,20 @@ pub fn date_of(day: u64) -> Date
     let rest = 4 * (quarters % DAYS_OF_400 / 4) + 3;
     let year = 100 * century + rest / DAYS_OF_4 + 1;
     let mut left = rest % DAYS_OF_4 / 4;
-    let mut month = JANUARY;
-    while month_days(year, month) <= left {
-        left -= month_days(year, month);
-        month += 1;
+    for month in JANUARY..DECEMBER {
+        let days = month_days(year, month);
+        if left < days {
+            return Date {
+                year,
+                month,
+                day: left + 1,
+            };
+        }
+        left -= days;
     }
-    let day = left + 1;
-    Date { year, month, day }
+    Date {
+        year,
+        month: DECEMBER,
+        day: left + 1,
+    }
 }

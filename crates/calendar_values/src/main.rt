@@ -7,7 +7,6 @@
 mod dates;
 mod forms;
 mod make;
-mod show;
 mod times;
 
 use std::io;

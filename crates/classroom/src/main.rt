@@ -3,10 +3,11 @@
 
 #![tactic(auto)]
 
-ghost use Rattle.std.specs.Prelude.{◌≡◌, ◌≤◌, length, take, vec_items, OnOk, IfOk, IfSome};
+ghost use Rattle.std.specs.Prelude.{◌≡◌, ◌≤◌, length, take, OnOk, IfOk, IfSome};
 ghost use Rattle.std.specs.Io.KnownBytes.{Appends};
 ghost use Rattle.lesson.specs.Classroom.{classroom_of};
 
+use lesson::TEXT;
 use std::alloc::Global;
 use std::io;
 use std::io::{Read, Write};
@@ -15,24 +16,12 @@ use std::io::{Read, Write};
 // more of it is read.
 const MOST: u64 = 2008;
 
-// The bytes that hold all lines.
-const TEXT: usize = 1020;
-
-// The first bytes of an input, up to `most`.
-fn read<R: Read + Drop>(alloc: Global, input: R, most: u64) -> io::Result<Vec<u8>>
-    ensures { IfOk result (λ bytes. IfSome (R.remaining input) (λ all. bytes.items ≡ take most all)) }
-{
-    let mut bytes = Vec::new(alloc);
-    input.take(most).read_to_end(&mut bytes)?;
-    Ok(bytes)
-}
-
 // The lines for an input. Answers how many bytes they have.
 fn lines<R: Read + Drop>(alloc: Global, input: R, text: &mut [u8; TEXT]) -> io::Result<usize>
     ensures in_bounds { IfOk result (λ n. n ≤ length text.new) }
     ensures value { IfOk result (λ n. IfSome (R.remaining input) (λ all. take n text.new ≡ classroom_of all)) }
 {
-    let bytes = read(alloc, input, MOST)?;
+    let bytes = first_bytes::read(alloc, input, MOST)?;
     Ok(lesson::classroom(&bytes, text))
 }
 

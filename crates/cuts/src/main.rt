@@ -3,7 +3,7 @@
 
 #![tactic(auto)]
 
-ghost use Rattle.std.specs.Prelude.{◌≡◌, ◌≤◌, length, take, vec_items, OnOk, IfOk, IfSome};
+ghost use Rattle.std.specs.Prelude.{◌≡◌, ◌≤◌, length, take, OnOk, IfOk, IfSome};
 ghost use Rattle.std.specs.Io.KnownBytes.{Appends};
 ghost use Rattle.cuts.specs.Cuts.{cuts_text};
 
@@ -16,23 +16,13 @@ use std::io::{Read, Write};
 // has so many bytes is none, and no more of it is read.
 const MOST: u64 = 7;
 
-// The first bytes of an input, up to `most`.
-fn read<R: Read + Drop>(alloc: Global, input: R, most: u64) -> io::Result<Vec<u8>>
-    ensures { IfOk result (λ bytes. IfSome (R.remaining input) (λ all. bytes.items ≡ take most all)) }
-{
-    let mut bytes = Vec::new(alloc);
-    input.take(most).read_to_end(&mut bytes)?;
-    Ok(bytes)
-}
-
 // The list that an input asks for. Answers how many bytes it has.
 fn list<R: Read + Drop>(alloc: Global, input: R, text: &mut [u8; TEXT]) -> io::Result<usize>
     ensures in_bounds { IfOk result (λ n. n ≤ length text.new) }
     ensures value { IfOk result (λ n. IfSome (R.remaining input) (λ all. take n text.new ≡ cuts_text all)) }
 {
-    let bytes = read(alloc, input, MOST)?;
-    let answer = cutter::list(&bytes, text);
-    Ok(answer.run as usize)
+    let bytes = first_bytes::read(alloc, input, MOST)?;
+    Ok(cutter::list(&bytes, text).unwrap_or(0))
 }
 
 // Writes the list that an input asks for.

@@ -33,9 +33,6 @@ decimal-four n a b =
     let q : n / 10 / 10 ≡ n / 100 = omega arith in
     rw (p, q))
 
-pub size-range : (s : ℕ) → is_size s ≡ true → (100 ≤ s) × (s < 10000)
-size-range s h = let z = size-facts s h in (omega (arith, z.1), omega (arith, z.2))
-
 -- a number and the byte behind it
 pub length_three : (n end : ℕ) → 100 ≤ n → n < 1000 → length (item n end) ≡ 4
 length_three n end a b = ap (λ (l : List ℕ). length (l ++ (end ∷ []))) (decimal-three n a b)
@@ -62,17 +59,6 @@ wrote_then {b} {m} {l} {v} {w} {at} {end} x y h =
 -- the same text by another name
 pub wrote_as : {b l v w : List ℕ} {at end : ℕ} → v ≡ w → Wrote b at v l end → Wrote b at w l end
 wrote_as e x = rw (← e) x
-
--- a number of three digits, or four, by its digits
-pub wrote-three : (b l : List ℕ) (at n end : ℕ) {x y z : ℕ} → 100 ≤ n → n < 1000 → x ≡ digit (n / 100) → y ≡ digit (n / 10) → z ≡ digit n
-    → l ≡ put b at (x ∷ y ∷ z ∷ end ∷ []) → Wrote b at (item n end) l (at + 4)
-wrote-three b l at n end g h p q r e =
-    rw (decimal-three n g h) (record { is = e ∙ (λ i. put b at (p i ∷ q i ∷ r i ∷ end ∷ [])); ends = refl })
-
-pub wrote-four : (b l : List ℕ) (at n end : ℕ) {x y z w : ℕ} → 1000 ≤ n → n < 10000 → x ≡ digit (n / 1000) → y ≡ digit (n / 100) → z ≡ digit (n / 10)
-    → w ≡ digit n → l ≡ put b at (x ∷ y ∷ z ∷ w ∷ end ∷ []) → Wrote b at (item n end) l (at + 5)
-wrote-four b l at n end g h p q r t e =
-    rw (decimal-four n g h) (record { is = e ∙ (λ i. put b at (p i ∷ q i ∷ r i ∷ t i ∷ end ∷ [])); ends = refl })
 
 -- what is written at the start of a buffer is shown there
 module _ {b d v : List ℕ} {n : ℕ} (wrote : Wrote b 0 v d n) (h : length v ≤ length b) where

@@ -1,8 +1,9 @@
 -- What is written of the cuts, a line each, and for which inputs. PROTOCOL, "Cuts".
-use Rattle.std.specs.Prelude.{ℕ, ◌/◌, cond, ◌&&◌, List, [], ◌∷◌, ◌++◌, length}
+use Rattle.std.specs.Prelude.{ℕ, ◌/◌, cond, ◌&&◌, List, [], ◌∷◌, ◌++◌, length, Result, Ok, Err}
 use Rattle.octets.specs.Octets.{put}
 use Rattle.answer.specs.declared.Answer.{Answer}
-use Rattle.answer.specs.Answers.{bare, sent}
+use Rattle.answer.specs.declared.Refusal.{Refusal}
+use Rattle.answer.specs.Answers.{number, bare, sent}
 use Rattle.machine.specs.Codes.{no_cuts}
 use Rattle.script.specs.Input.{line_feed, length_of, is_one_number}
 use Rattle.script.specs.Decimal.{decimal_of}
@@ -28,6 +29,11 @@ lines_of (l ∷ g) = line_of l ++ lines_of g
 -- all cuts of a length
 abbrev pub text_of : ℕ → List ℕ
 text_of total = lines_of (cuts (total / unit))
+
+-- the answer that tells how many bytes the list has, or why there is none
+abbrev pub answer_to : Result ℕ Refusal → Answer
+answer_to (Ok n) = sent n 0
+answer_to (Err r) = bare (number r)
 
 pub record CutOutcome : Type 0 where
   pub answer : Answer

@@ -6,9 +6,9 @@ mod lines;
 
 ghost use Rattle.std.specs.Prelude.{◌≡◌};
 ghost use Rattle.cutter.specs.Cuts.{is_length};
-ghost use Rattle.cutter.specs.Text.{cuts_of};
+ghost use Rattle.cutter.specs.Text.{answer_to, cuts_of};
 
-use answer::Answer;
+use answer::Refusal;
 use lines::UNIT;
 
 // The longest survey that has a list.
@@ -21,18 +21,16 @@ pub const TEXT: usize = 49766;
 fn is_length(n: usize) -> bool
     ensures { result ≡ is_length n }
 {
-    (n % UNIT == 0) & ((UNIT <= n) & (n <= LONGEST))
+    n % UNIT == 0 && (UNIT..=LONGEST).contains(&n)
 }
 
 // Writes every cut of the length that the input asks for, a line each, and answers how many bytes these are;
-// answers 30 where it asks for none.
-pub fn list(input: &[u8], out: &mut [u8; TEXT]) -> Answer
-    ensures { (record { answer = result; out = out.new }) ≡ cuts_of input.now out.old }
+// refuses what asks for none.
+pub fn list(input: &[u8], out: &mut [u8; TEXT]) -> Result<usize, Refusal>
+    ensures { (record { answer = answer_to result; out = out.new }) ≡ cuts_of input.now out.old }
 {
-    let total = script::one_number(input);
-    if !is_length(total) {
-        return answer::refuse(answer::NO_CUTS);
+    match script::one_number(input) {
+        Some(total) if is_length(total) => Ok(lines::put_cuts(out, 0, b"", UNIT, total / UNIT - 1)),
+        _ => Err(Refusal::NoCuts),
     }
-    let end = lines::put_cuts(out, 0, b"", UNIT, total / UNIT - 1);
-    answer::sent(end as u64, 0)
 }

@@ -1,11 +1,13 @@
 // The lines of a list of cuts. The recursion follows the definition `grow`: a size ends and the next begins, or
 // it grows by a unit.
+// A text is a buffer and a place in it: memory is fixed, and a contract says what is put at that place.
 
-ghost use Rattle.std.specs.Prelude.{◌++◌, ◌≡◌, ◌+◌, ◌<◌, ◌≤◌, length};
+ghost use Rattle.std.specs.Prelude.{◌++◌, ◌+◌, ◌≤◌, length};
 ghost use Rattle.cutter.specs.Text.{item};
-ghost use Rattle.cutter.specs.Fronts.{digit, Wrote, growing, Room};
+ghost use Rattle.cutter.specs.Fronts.{Wrote, growing, Room};
 
 use octets::copy_in;
+use script::put_item;
 
 // Sizes are multiples of 250 up to 1,250.
 pub const UNIT: usize = 250;
@@ -15,37 +17,9 @@ const LARGEST: usize = 1250;
 // The bytes of the longest front of a line: eleven times `250` and a blank.
 const FRONT: usize = 44;
 
-// The last digit of a number.
-fn digit(n: usize) -> u8
-    ensures { result ≡ digit n }
-{
-    (48 + n % 10) as u8
-}
-
-// A number of three or four digits and the byte behind it, written at `at`; answers where they end.
-fn put_item(text: &mut [u8], at: usize, n: usize, end: u8) -> usize
-    requires { (100 ≤ n) × (n < 10000) × (at + length (item n end) ≤ length text.old) }
-    ensures { Wrote text.old at (item n end) text.new result }
-{
-    if n < 1000 {
-        let three = [digit(n / 100), digit(n / 10), digit(n), end];
-        copy_in(text, at, &three);
-        return at + 4;
-    }
-    let four = [
-        digit(n / 1000),
-        digit(n / 100),
-        digit(n / 10),
-        digit(n),
-        end,
-    ];
-    copy_in(text, at, &four);
-    at + 5
-}
-
 // A front, a number and the byte behind it, written at `at`; answers where they end.
 fn put_behind(text: &mut [u8], at: usize, front: &[u8], n: usize, end: u8) -> usize
-    requires { (100 ≤ n) × (n < 10000) × (at + length (front.now ++ item n end) ≤ length text.old) }
+    requires { at + length (front.now ++ item n end) ≤ length text.old }
     ensures { Wrote text.old at (front.now ++ item n end) text.new result }
 {
     copy_in(text, at, front);

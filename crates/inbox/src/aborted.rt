@@ -1,27 +1,29 @@
 // Aborted: the sender has given up.
 
 ghost use Rattle.std.specs.Prelude.{◌≡◌};
+ghost use Rattle.answer.specs.Results.{answered};
 ghost use Rattle.machine.specs.Layout.{decode};
 ghost use Rattle.machine.specs.Receive.{found, drop_step};
 ghost use Rattle.machine.specs.Refusals.{refusal, held_row};
 ghost use Rattle.records.specs.HeldAt.{Receives};
 ghost use Rattle.records.specs.Step.{stepped};
 
+use answer::Refusal;
 use records::find;
 
-// Aborted: the number, and the store without the arriving record.
-pub fn abort(recv: &mut [u8], id: &[u8]) -> u64
+// Aborted: the refusal, or the store without the arriving record.
+pub fn abort(recv: &mut [u8], id: &[u8]) -> Result<(), Refusal>
     requires { Receives recv.old }
     ensures { let b = recv.old in
         let k = id.now in
         let s = decode b in
-        record { number = result; store = recv.new }
+        record { number = answered result; store = recv.new }
         ≡ stepped (refusal (held_row (found k s.held))) (drop_step k s) b }
 {
     let link = find::find_held(recv, id);
     if recv[link] == 0 {
-        return answer::UNKNOWN_ID;
+        return Err(Refusal::UnknownId);
     }
     records::release::drop(recv, link);
-    answer::DONE
+    Ok(())
 }

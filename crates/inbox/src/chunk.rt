@@ -1,6 +1,7 @@
 // Chunk: a piece of a message comes.
 
 ghost use Rattle.std.specs.Prelude.{◌≡◌, ◌+◌, ◌≤◌, length, leb};
+ghost use Rattle.answer.specs.Results.{answered};
 ghost use Rattle.packet.specs.Frame.{largest_piece};
 ghost use Rattle.machine.specs.Limits.{longest};
 ghost use Rattle.machine.specs.Codes.{role_receive};
@@ -13,6 +14,7 @@ ghost use Rattle.records.specs.Step.{stepped};
 ghost use Rattle.pieces.specs.InPlace.{Spot};
 
 use crate::share;
+use answer::Refusal;
 use records::{field, find};
 use rows::{message, record};
 
@@ -20,10 +22,7 @@ use rows::{message, record};
 fn fits(offset: u64, size: u64, total: u64) -> bool
     ensures { result ≡ leb (offset + size) total }
 {
-    if offset > total {
-        return false;
-    }
-    size <= total - offset
+    offset <= total && size <= total - offset
 }
 
 // Row 11: whether the piece, which ends inside the message, is too short for where it stands.
@@ -35,64 +34,64 @@ fn too_short(total: u64, index: u64, offset: u64, size: u64) -> bool
 }
 
 // Rows 28 and 12: a piece at a new index needs a cell, of its source's share and of those that are free.
-fn cell_refusal(recv: &[u8], link: usize, spot: usize, index: u64) -> u64
+fn cell_refusal(recv: &[u8], link: usize, spot: usize, index: u64) -> Result<(), Refusal>
     requires { HeldAt role_receive recv.now link × Spot recv.now (place_at recv.now link) index spot }
     ensures { let b = recv.now in
-        result ≡ refusal (cell_row index (decode b) (rec_in b link)) }
+        answered result ≡ refusal (cell_row index (decode b) (rec_in b link)) }
 {
     if pieces::held::has_piece(recv, link, spot, index) {
-        return answer::DONE;
+        return Ok(());
     }
     if share::of_source(recv, field::source(recv, link)) >= record::MOST_OF_SOURCE {
-        return answer::SOURCE_FULL;
+        return Err(Refusal::SourceFull);
     }
     if !find::is_free_cell(recv) {
-        return answer::NO_CELL;
+        return Err(Refusal::NoCell);
     }
-    answer::DONE
+    Ok(())
 }
 
 // Rows 8 to 11: the refusal of a chunk of the record that was searched for.
-fn refusal(recv: &[u8], link: usize, index: u64, offset: u64, size: u64) -> u64
+fn refusal(recv: &[u8], link: usize, index: u64, offset: u64, size: u64) -> Result<(), Refusal>
     requires { Searched role_receive recv.now link }
-    ensures { result ≡ refusal (asks_of (met_at recv.now link) (piece_row index offset size)) }
+    ensures { answered result ≡ refusal (asks_of (met_at recv.now link) (piece_row index offset size)) }
 {
     if recv[link] == 0 {
-        return answer::UNKNOWN_ID;
+        return Err(Refusal::UnknownId);
     }
     let total = field::total(recv, link);
     if !fits(offset, size, total) {
-        return answer::PAST_END;
+        return Err(Refusal::PastEnd);
     }
     if index > message::top(total) {
-        return answer::HIGH_INDEX;
+        return Err(Refusal::HighIndex);
     }
     if too_short(total, index, offset, size) {
-        return answer::SHORT_PIECE;
+        return Err(Refusal::ShortPiece);
     }
-    answer::DONE
+    Ok(())
 }
 
-// Chunk: the number, and the store with the piece in it.
-pub fn chunk(recv: &mut [u8], id: &[u8], index: u64, offset: u64, piece: &[u8]) -> u64
+// Chunk: the refusal, or the store with the piece in it.
+pub fn chunk(
+    recv: &mut [u8],
+    id: &[u8],
+    index: u64,
+    offset: u64,
+    piece: &[u8],
+) -> Result<(), Refusal>
     requires { Receives recv.old × (length piece.now ≤ largest_piece) }
     ensures { let b = recv.old in
         let k = id.now in
         let p = piece.now in
         let s = decode b in
-        record { number = result; store = recv.new }
+        record { number = answered result; store = recv.new }
         ≡ stepped (refusal (chunk_row index offset (length p) s (found k s.held))) (chunk_step k index p s) b }
 {
     let link = find::find_held(recv, id);
-    let number = refusal(recv, link, index, offset, piece.len() as u64);
-    if number != answer::DONE {
-        return number;
-    }
+    refusal(recv, link, index, offset, piece.len() as u64)?;
     let spot = pieces::held::piece_link(recv, link, index);
-    let room = cell_refusal(recv, link, spot, index);
-    if room != answer::DONE {
-        return room;
-    }
+    cell_refusal(recv, link, spot, index)?;
     pieces::insert::put_piece(recv, link, spot, index, piece);
-    answer::DONE
+    Ok(())
 }

@@ -31,16 +31,13 @@ fn of_chain(recv: &[u8], source: &[u8], link: usize) -> u64
 {
     let mut here = link;
     let mut sum: u64 = 0;
-    let mut n: usize = 0;
-    while n < record::STEPS {
-        let place = octets::small(recv[here]);
+    for n in 0..record::STEPS {
+        let place = usize::from(recv[here]);
         if place == 0 {
             return sum;
         }
-        let more = of_record(recv, source, here);
-        sum += more;
+        sum += of_record(recv, source, here);
         here = record::record_at(place);
-        n += 1;
     }
     sum
 }

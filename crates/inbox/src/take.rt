@@ -2,6 +2,7 @@
 
 ghost use Rattle.std.specs.Prelude.{◌≡◌, ◌++◌, ◌+◌, ◌≤◌, length};
 ghost use Rattle.octets.specs.Octets.{put};
+ghost use Rattle.answer.specs.Results.{answer_of};
 ghost use Rattle.packet.specs.Outgoing.{entry, read_packet};
 ghost use Rattle.machine.specs.Limits.{rec_bytes};
 ghost use Rattle.machine.specs.Layout.{whole_at, decode};
@@ -11,7 +12,7 @@ ghost use Rattle.machine.specs.Take.{oldest_row, take_room, take_at};
 ghost use Rattle.records.specs.HeldAt.{row_in, rec_in, Receives};
 ghost use Rattle.inbox.specs.Oldest.{Oldest};
 
-use answer::Answer;
+use answer::{Done, Refusal};
 use packet::{header, run};
 use records::field;
 use rows::head::Head;
@@ -54,14 +55,14 @@ fn put_message(recv: &[u8], taken: &mut [u8])
 }
 
 // Takes the oldest whole message out: its record and its data into `taken`, its read packet into `run`.
-pub fn take(recv: &mut [u8], taken: &mut [u8], run: &mut [u8]) -> Answer
+pub fn take(recv: &mut [u8], taken: &mut [u8], run: &mut [u8]) -> Result<Done, Refusal>
     requires { Receives recv.old }
     ensures { let b = recv.old in
         let t = taken.old in
         let o = run.old in
         let l = (decode b).whole in
         record {
-          answer = result;
+          answer = answer_of result;
           recv = recv.new;
           taken = taken.new;
           out = run.new;
@@ -69,17 +70,20 @@ pub fn take(recv: &mut [u8], taken: &mut [u8], run: &mut [u8]) -> Answer
         ≡ take_at (refusal (oldest_row l t o)) l b t o }
 {
     if recv[Head::WHOLE] == 0 {
-        return answer::refuse(answer::NONE_WHOLE);
+        return Err(Refusal::NoneWhole);
     }
     if run.len() < READ_ROOM {
-        return answer::refuse(answer::SHORT_OUTPUT);
+        return Err(Refusal::ShortOutput);
     }
     let total = field::total(recv, Head::WHOLE) as usize;
     if taken.len() < record::BYTES + total {
-        return answer::refuse(answer::SHORT_OUTPUT);
+        return Err(Refusal::ShortOutput);
     }
     put_read(recv, run);
     put_message(recv, taken);
     records::release::take_first(recv);
-    answer::sent(READ_ROOM as u64, 0)
+    Ok(Done {
+        run: READ_ROOM as u64,
+        ..Done::NOTHING
+    })
 }

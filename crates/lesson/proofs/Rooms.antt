@@ -8,6 +8,7 @@ use lib.ListN.{length, take, drop, replicate, length-append}
 use lib.Dec.{eqb}
 use Rattle.octets.specs.BoolsLaws.{cases}
 use Rattle.octets.specs.Octets.{part, put, same}
+use Rattle.octets.specs.PartsLaws.{length-put}
 use Rattle.machine.specs.Outcomes.{PacketOutcome}
 use Rattle.machine.specs.Refusals.{refusal}
 use Rattle.machine.specs.Packet.{Packet, packet_of, packet_at, packet_row, arrival, packet_room}
@@ -57,20 +58,18 @@ pub reply-fits : (n : Node) (e run : List ℕ) (tail room : ℕ) → run ≡ rep
     → tail + 2 * length (stored (entries_of run)) ≤ room
 reply-fits n e run tail room f h = omega (arith, h, (answered n e).bytes, ap (λ (l : List ℕ). length (stored (entries_of l))) f)
 
-pub handed : (n : Node) (e run x y b c l : List ℕ) (tail used end next : ℕ) → run ≡ reply_of (arrived n e) → x ≡ (arrived n e).recv → y ≡ (arrived n
+pub handed : (n : Node) (e run x y b c l : List ℕ) (tail end : ℕ) (rest : List ℕ) → run ≡ reply_of (arrived n e) → x ≡ (arrived n e).recv → y ≡ (arrived n
     e).send
-    → (c ≡ put b tail (stored (through (entries_of run) (drop used l))))
-    × (end ≡ tail + length (stored (through (entries_of run) (drop used l))))
-    × (drop next l ≡ drop (length (entries_of run)) (drop used l))
-    × (next ≤ length l)
-    → Handed (arrived n e) x y b c l tail used end next
-handed n e run x y b c l tail used end next f g h p = record {
+    → (c ≡ put b tail (stored (through (entries_of run) l)))
+    × (end ≡ tail + length (stored (through (entries_of run) l)))
+    × (rest ≡ drop (length (entries_of run)) l)
+    → Handed (arrived n e) x y b c l tail end rest
+handed n e run x y b c l tail end rest f g h p = record {
   recv = g;
   send = h;
-  queue = p.0 ∙ ap (λ (r : List ℕ). put b tail (stored (through (entries_of r) (drop used l)))) f;
-  ends = p.1 ∙ ap (λ (r : List ℕ). tail + length (stored (through (entries_of r) (drop used l)))) f;
-  letters = p.2 ∙ ap (λ (r : List ℕ). drop (length (entries_of r)) (drop used l)) f;
-  within = p.3;
+  queue = p.0 ∙ ap (λ (r : List ℕ). put b tail (stored (through (entries_of r) l))) f;
+  ends = p.1 ∙ ap (λ (r : List ℕ). tail + length (stored (through (entries_of r) l))) f;
+  letters = p.2 ∙ ap (λ (r : List ℕ). drop (length (entries_of r)) l) f;
 }
 
 -- ---- the first packet is delivered
@@ -88,39 +87,45 @@ pub first-room : (b : List ℕ) (head tail : ℕ) (e x : List ℕ) (q : List (Li
 unfolding asking
 first-room b head tail e x q r f = let h = r.room in omega (arith, ap asks f)
 
-module _ (b c l : List ℕ) (head tail used end next : ℕ) (e : List ℕ) (q : List (List ℕ)) (r : Ready b head tail e q) (n : Node) (x y : List ℕ)
-    (h : Handed (arrived n e) x y b c l tail used end next) (k : length c ≡ length b) where
-  grows : length (stored (through (entries_of (reply_of (arrived n e))) (drop used l))) ≤ replies_room * asks e
-  grows = omega (arith, through-length (entries_of (reply_of (arrived n e))) (drop used l), (answered n e).bytes)
+module _ (b c l : List ℕ) (head tail end : ℕ) (rest : List ℕ) (e : List ℕ) (q : List (List ℕ)) (r : Ready b head tail e q) (n : Node) (x y : List ℕ)
+    (h : Handed (arrived n e) x y b c l tail end rest) where
+  grows : length (stored (through (entries_of (reply_of (arrived n e))) l)) ≤ replies_room * asks e
+  grows = omega (arith, through-length (entries_of (reply_of (arrived n e))) l, (answered n e).bytes)
 
-  pub waits-then : Waits c (head + 2 + length e) end (q ++ through (entries_of (reply_of (arrived n e))) (drop used l))
+  kept : length c ≡ length b
+  unfolding asking
+  kept =
+      let room = r.room in
+      ap length h.queue ∙ length-put b tail (stored (through (entries_of (reply_of (arrived n e))) l)) (omega (arith, grows))
+
+  pub waits-then : Waits c (head + 2 + length e) end (q ++ through (entries_of (reply_of (arrived n e))) l)
   unfolding asking
   waits-then =
       let room = r.room in
       rw h.ends
-      (more-waits b c (head + 2 + length e) tail q (through (entries_of (reply_of (arrived n e))) (drop used l))
+      (more-waits b c (head + 2 + length e) tail q (through (entries_of (reply_of (arrived n e))) l)
       (first_rest b head tail e q r.waits) h.queue
       (omega (arith, grows))
-      (stored-small (through (entries_of (reply_of (arrived n e))) (drop used l)) (omega (arith, grows, asks-le e))))
+      (stored-small (through (entries_of (reply_of (arrived n e))) l) (omega (arith, grows, asks-le e))))
 
-  pub fits-then : end + replies_room * asking (q ++ through (entries_of (reply_of (arrived n e))) (drop used l)) ≤ length c
+  pub fits-then : end + replies_room * asking (q ++ through (entries_of (reply_of (arrived n e))) l) ≤ length c
   unfolding asking
   fits-then =
       let room = r.room in
       omega (
         arith,
-        k,
+        kept,
         h.ends,
         grows,
-        asking-append q (through (entries_of (reply_of (arrived n e))) (drop used l)),
-        replies-ask (asks e) (reply_of (arrived n e)) (drop used l) (answered n e),
+        asking-append q (through (entries_of (reply_of (arrived n e))) l),
+        replies-ask (asks e) (reply_of (arrived n e)) l (answered n e),
       )
 
-at-office : (b c l : List ℕ) (head tail used end next : ℕ) (e : List ℕ) (q : List (List ℕ)) (tr ts or os x y : List ℕ) → Ready b head tail e q
-    → Handed (arrived (node_of or os) e) x y b c l tail used end next → length c ≡ length b → same (to_of e) office_address ≡ true
-    → Delivered (deliver_first (e ∷ q) (room_of tr ts or os (e ∷ q) (drop used l))) (room_of tr ts x y) c l (head + 2 + length e) end next
+at-office : (b c l : List ℕ) (head tail end : ℕ) (rest : List ℕ) (e : List ℕ) (q : List (List ℕ)) (tr ts or os x y : List ℕ) → Ready b head tail e q
+    → Handed (arrived (node_of or os) e) x y b c l tail end rest → same (to_of e) office_address ≡ true
+    → Delivered (deliver_first (e ∷ q) (room_of tr ts or os (e ∷ q) l)) (room_of tr ts x y) c (head + 2 + length e) end rest
 unfolding deliver_first put_out
-at-office b c l head tail used end next e q tr ts or os x y r h k t =
+at-office b c l head tail end rest e q tr ts or os x y r h t =
     let n : Node = node_of or os in
     rw t
     (record {
@@ -129,18 +134,17 @@ at-office b c l head tail used end next e q tr ts or os x y r h k t =
           record {
             tablet = node_of tr ts;
             office = record { recv = h.recv i; send = h.send i };
-            link = record { queue = q ++ through (entries_of (reply_of (arrived n e))) (drop used l); letters = h.letters i };
+            link = record { queue = q ++ through (entries_of (reply_of (arrived n e))) l; letters = h.letters i };
           };
-      waits = waits-then b c l head tail used end next e q r n x y h k;
-      fits = fits-then b c l head tail used end next e q r n x y h k;
-      within = h.within;
+      waits = waits-then b c l head tail end rest e q r n x y h;
+      fits = fits-then b c l head tail end rest e q r n x y h;
     })
 
-at-tablet : (b c l : List ℕ) (head tail used end next : ℕ) (e : List ℕ) (q : List (List ℕ)) (tr ts or os x y : List ℕ) → Ready b head tail e q
-    → Handed (arrived (node_of tr ts) e) x y b c l tail used end next → length c ≡ length b → same (to_of e) office_address ≡ false
-    → Delivered (deliver_first (e ∷ q) (room_of tr ts or os (e ∷ q) (drop used l))) (room_of x y or os) c l (head + 2 + length e) end next
+at-tablet : (b c l : List ℕ) (head tail end : ℕ) (rest : List ℕ) (e : List ℕ) (q : List (List ℕ)) (tr ts or os x y : List ℕ) → Ready b head tail e q
+    → Handed (arrived (node_of tr ts) e) x y b c l tail end rest → same (to_of e) office_address ≡ false
+    → Delivered (deliver_first (e ∷ q) (room_of tr ts or os (e ∷ q) l)) (room_of x y or os) c (head + 2 + length e) end rest
 unfolding deliver_first put_out
-at-tablet b c l head tail used end next e q tr ts or os x y r h k t =
+at-tablet b c l head tail end rest e q tr ts or os x y r h t =
     let n : Node = node_of tr ts in
     rw t
     (record {
@@ -149,25 +153,24 @@ at-tablet b c l head tail used end next e q tr ts or os x y r h k t =
           record {
             tablet = record { recv = h.recv i; send = h.send i };
             office = node_of or os;
-            link = record { queue = q ++ through (entries_of (reply_of (arrived n e))) (drop used l); letters = h.letters i };
+            link = record { queue = q ++ through (entries_of (reply_of (arrived n e))) l; letters = h.letters i };
           };
-      waits = waits-then b c l head tail used end next e q r n x y h k;
-      fits = fits-then b c l head tail used end next e q r n x y h k;
-      within = h.within;
+      waits = waits-then b c l head tail end rest e q r n x y h;
+      fits = fits-then b c l head tail end rest e q r n x y h;
     })
 
 -- .. with the entry and its size as the code takes them
-module _ (b c l : List ℕ) (head tail used end next : ℕ) (e d : List ℕ) (n : ℕ) (q : List (List ℕ)) (tr ts or os x y : List ℕ)
+module _ (b c l : List ℕ) (head tail end : ℕ) (rest : List ℕ) (e d : List ℕ) (n : ℕ) (q : List (List ℕ)) (tr ts or os x y : List ℕ)
     (r : Ready b head tail e q) (is : d ≡ e)
-    (size : n ≡ length e) (k : length c ≡ length b) where
-  pub office-then : Handed (arrived (node_of or os) d) x y b c l tail used end next → same (to_of d) office_address ≡ true
-      → Delivered (deliver_first (e ∷ q) (room_of tr ts or os (e ∷ q) (drop used l))) (room_of tr ts x y) c l (head + 2 + n) end next
+    (size : n ≡ length e) where
+  pub office-then : Handed (arrived (node_of or os) d) x y b c l tail end rest → same (to_of d) office_address ≡ true
+      → Delivered (deliver_first (e ∷ q) (room_of tr ts or os (e ∷ q) l)) (room_of tr ts x y) c (head + 2 + n) end rest
   office-then h t =
-      let h' : Handed (arrived (node_of or os) e) x y b c l tail used end next = rw is at h in
-      rw size (at-office b c l head tail used end next e q tr ts or os x y r h' k (sym (ap (λ (z : List ℕ). same (to_of z) office_address) is) ∙ t))
+      let h' : Handed (arrived (node_of or os) e) x y b c l tail end rest = rw is at h in
+      rw size (at-office b c l head tail end rest e q tr ts or os x y r h' (sym (ap (λ (z : List ℕ). same (to_of z) office_address) is) ∙ t))
 
-  pub tablet-then : Handed (arrived (node_of tr ts) d) x y b c l tail used end next → same (to_of d) office_address ≡ false
-      → Delivered (deliver_first (e ∷ q) (room_of tr ts or os (e ∷ q) (drop used l))) (room_of x y or os) c l (head + 2 + n) end next
+  pub tablet-then : Handed (arrived (node_of tr ts) d) x y b c l tail end rest → same (to_of d) office_address ≡ false
+      → Delivered (deliver_first (e ∷ q) (room_of tr ts or os (e ∷ q) l)) (room_of x y or os) c (head + 2 + n) end rest
   tablet-then h t =
-      let h' : Handed (arrived (node_of tr ts) e) x y b c l tail used end next = rw is at h in
-      rw size (at-tablet b c l head tail used end next e q tr ts or os x y r h' k (sym (ap (λ (z : List ℕ). same (to_of z) office_address) is) ∙ t))
+      let h' : Handed (arrived (node_of tr ts) e) x y b c l tail end rest = rw is at h in
+      rw size (at-tablet b c l head tail end rest e q tr ts or os x y r h' (sym (ap (λ (z : List ℕ). same (to_of z) office_address) is) ∙ t))

@@ -7,6 +7,7 @@ use Rattle.machine.specs.Wake.{send_wake_room}
 use Rattle.link.specs.Entries.{entries_of, frame_of}
 use Rattle.link.specs.Link.{through}
 use Rattle.link.specs.Stored.{stored, Waits}
+use Rattle.lesson.specs.declared.room.Nodes.{Nodes}
 use Rattle.lesson.specs.Room.{Node, Room, reply_of}
 
 abbrev pub node_of : List ℕ → List ℕ → Node
@@ -20,6 +21,10 @@ room_of tr ts or os queue letters =
       office = node_of or os;
       link = record { queue = queue; letters = letters };
     }
+
+-- .. the same of the nodes' stores
+abbrev pub room_with : Nodes → List (List ℕ) → List ℕ → Room
+room_with n = room_of n.tablet.recv n.tablet.send n.office.recv n.office.send
 
 -- how many packets may get a reply: those that are no acknowledgement
 abbrev pub asks : List ℕ → ℕ
@@ -41,14 +46,14 @@ most_packets = send_wake_room / 34 + 1
 abbrev pub queue_room : ℕ
 queue_room = 2 * (send_wake_room + 2 * most_packets) + 2 * replies_room * most_packets
 
--- a packet has come to a node, with the outcome o: its stores are x and y, and the reply stands behind the queue's tail
-pub record Handed (o : PacketOutcome) (x y b c l : List ℕ) (tail used end next : ℕ) : Type 0 where
+-- a packet has come to a node, with the outcome o: its stores are x and y, the reply stands behind the queue's tail, and the letters to come are
+-- the rest of l
+pub record Handed (o : PacketOutcome) (x y b c l : List ℕ) (tail end : ℕ) (rest : List ℕ) : Type 0 where
   pub recv : x ≡ o.recv
   pub send : y ≡ o.send
-  pub queue : c ≡ put b tail (stored (through (entries_of (reply_of o)) (drop used l)))
-  pub ends : end ≡ tail + length (stored (through (entries_of (reply_of o)) (drop used l)))
-  pub letters : drop next l ≡ drop (length (entries_of (reply_of o))) (drop used l)
-  pub within : next ≤ length l
+  pub queue : c ≡ put b tail (stored (through (entries_of (reply_of o)) l))
+  pub ends : end ≡ tail + length (stored (through (entries_of (reply_of o)) l))
+  pub letters : rest ≡ drop (length (entries_of (reply_of o))) l
 
 -- a queue with a first packet stands in the buffer, with room for all replies
 pub record Ready (b : List ℕ) (head tail : ℕ) (e : List ℕ) (q : List (List ℕ)) : Type 0 where
@@ -61,8 +66,7 @@ pub record SomeReady (b : List ℕ) (head tail : ℕ) : Type 0 where
   pub ready : Ready b head tail first rest
 
 -- what a delivery leaves: the room after it, its queue in the buffer, and no less room for replies
-pub record Delivered (after : Room) (stores : List (List ℕ) → List ℕ → Room) (b letters : List ℕ) (head tail used : ℕ) : Type 0 where
-  pub room : stores after.link.queue (drop used letters) ≡ after
+pub record Delivered (after : Room) (stores : List (List ℕ) → List ℕ → Room) (b : List ℕ) (head tail : ℕ) (letters : List ℕ) : Type 0 where
+  pub room : stores after.link.queue letters ≡ after
   pub waits : Waits b head tail after.link.queue
   pub fits : tail + replies_room * asking after.link.queue ≤ length b
-  pub within : used ≤ length letters

@@ -7,4 +7,4 @@ mod run;
 mod show;
 mod text;
 
-pub use show::classroom;
+pub use show::{TEXT, classroom};

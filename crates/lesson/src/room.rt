@@ -2,14 +2,17 @@
 
 ghost use Rattle.std.specs.Prelude.{◌≡◌, List, [], ◌∷◌, ℕ, ◌+◌, ◌-◌, ◌*◌, ◌≤◌, length, take, drop, replicate};
 ghost use Rattle.octets.specs.Octets.{same};
+ghost use Rattle.answer.specs.Results.{answer_of};
 ghost use Rattle.machine.specs.Packet.{packet_room};
 ghost use Rattle.machine.specs.Wake.{send_wake_room};
 ghost use Rattle.link.specs.Entries.{to_of};
 ghost use Rattle.link.specs.Link.{put_out};
 ghost use Rattle.lesson.specs.Room.{office_address, arrived, deliver_first, settled};
-ghost use Rattle.lesson.specs.Steps.{node_of, room_of, asks, replies_room};
+ghost use Rattle.lesson.specs.Lesson.{fresh_store};
+ghost use Rattle.lesson.specs.Steps.{node_of, room_with, asks, replies_room};
 ghost use Rattle.lesson.specs.Steps.{Handed, SomeReady, Ready, Delivered};
 
+use answer::{Done, Refusal};
 use link::queue::Mark;
 use link::{entry, queue};
 use octets::equal;
@@ -17,6 +20,9 @@ use octets::equal;
 pub const TABLET: [u8; 16] = [4, 0, 0, 0, 0, 0, 0, 0, 0, 0, 0, 0, 0, 0, 0, 1];
 
 pub const OFFICE: [u8; 16] = [4, 0, 0, 0, 0, 0, 0, 0, 0, 0, 0, 0, 0, 0, 0, 2];
+
+// The bytes of a store of 45 cells.
+const STORE: usize = 64740;
 
 // The longest run, a send wake's.
 pub const RUN: usize = 10960;
@@ -31,21 +37,59 @@ const QUEUE: usize = 2 * (RUN + 2 * PACKETS) + 352 * PACKETS;
 // The most deliveries in a round: each packet of a run twice, and two replies to each of them.
 const DELIVERIES: usize = 6 * PACKETS;
 
-// Where the queue starts and ends, and how many letters are used.
-#[derive(Clone, Copy)]
-struct Next {
+// A node's two stores.
+#[derive(Drop)]
+pub struct Stores {
+    pub recv: [u8; STORE],
+    pub send: [u8; STORE],
+}
+
+impl Stores {
+    // Fresh, with 45 cells each.
+    pub fn fresh() -> Stores
+        ensures { (result.recv ≡ fresh_store 1) × (result.send ≡ fresh_store 2) }
+    {
+        let mut stores = Stores {
+            recv: [0; STORE],
+            send: [0; STORE],
+        };
+        let _ = message::setup(&mut stores.recv, 1);
+        let _ = message::setup(&mut stores.send, 2);
+        stores
+    }
+}
+
+#[derive(Drop)]
+pub struct Nodes {
+    pub tablet: Stores,
+    pub office: Stores,
+}
+
+// The queue in its buffer: its first packet stands at the head, and its end and the letters to come are a mark.
+#[derive(Drop)]
+struct Queue<'a> {
+    bytes: [u8; QUEUE],
     head: usize,
-    tail: usize,
-    used: usize,
+    mark: Mark<'a>,
+}
+
+// How long the run is that a call gives: a refused one gives none.
+pub fn run_length(outcome: Result<Done, Refusal>) -> usize
+    ensures { result ≡ (answer_of outcome).run }
+{
+    match outcome {
+        Ok(done) => done.run as usize,
+        Err(_) => 0,
+    }
 }
 
 // The packet of an entry comes to the node with these stores; answers how long its reply in `run` is.
-fn arrive(recv: &mut [u8], send: &mut [u8], e: &[u8], run: &mut [u8; 86]) -> usize
+fn arrive(node: &mut Stores, e: &[u8], run: &mut [u8; 86]) -> usize
     requires { run.old ≡ replicate packet_room 0 }
-    ensures { let o = arrived (node_of recv.old send.old) e.now in
+    ensures { let o = arrived (node_of node.old.recv node.old.send) e.now in
         (result ≡ o.answer.run)
-        × (recv.new ≡ o.recv)
-        × (send.new ≡ o.send)
+        × (node.new.recv ≡ o.recv)
+        × (node.new.send ≡ o.send)
         × (run.new ≡ o.out)
         × (result ≤ packet_room)
         × (length run.new ≡ packet_room) }
@@ -53,152 +97,84 @@ fn arrive(recv: &mut [u8], send: &mut [u8], e: &[u8], run: &mut [u8; 86]) -> usi
     let frame = entry::frame_of(e);
     let from = entry::from_of(e);
     let to = entry::to_of(e);
-    let rules = [0u8; 1];
-    let a = message::packet(recv, send, frame, &from, &to, &rules, 1, run);
-    a.run as usize
+    run_length(message::packet(
+        &mut node.recv,
+        &mut node.send,
+        frame,
+        &from,
+        &to,
+        &[0],
+        1,
+        run,
+    ))
 }
 
 // Whether the packet of an entry goes to the office.
 fn to_office(e: &[u8]) -> bool
     ensures { result ≡ same (to_of e.now) office_address }
 {
-    let to = entry::to_of(e);
-    let office = OFFICE;
-    equal(&to, &office)
+    equal(&entry::to_of(e), &OFFICE)
 }
 
 // The packet of the entry from `start` to `next` comes to the node with these stores; its reply is put out.
-fn hand_over(
-    recv: &mut [u8],
-    send: &mut [u8],
-    queue: &mut [u8],
-    letters: &[u8],
-    start: usize,
-    next: usize,
-    tail: usize,
-    used: usize,
-) -> Mark
-    requires { (start ≤ next)
-        × (next ≤ length queue.old)
-        × (tail + replies_room * asks (take (next - start) (drop start queue.old)) ≤ length queue.old)
-        × (used ≤ length letters.now) }
-    ensures { let node = node_of recv.old send.old in
-        let e = take (next - start) (drop start queue.old) in
-        Handed (arrived node e) recv.new send.new queue.old
-        queue.new letters.now tail used result.tail result.used }
+fn hand_over(node: &mut Stores, queue: &mut Queue<'_>, start: usize, next: usize)
+    requires { let e = take (next - start) (drop start queue.old.bytes) in
+        (start ≤ next)
+        × (next ≤ length queue.old.bytes)
+        × (queue.old.mark.tail + replies_room * asks e ≤ length queue.old.bytes) }
+    ensures { let e = take (next - start) (drop start queue.old.bytes) in
+        Handed (arrived (node_of node.old.recv node.old.send) e) node.new.recv node.new.send
+        queue.old.bytes queue.new.bytes queue.old.mark.letters.now
+        queue.old.mark.tail queue.new.mark.tail queue.new.mark.letters.now
+        × (queue.new.head ≡ queue.old.head) }
 {
     let mut run = [0u8; 86];
-    let n = arrive(recv, send, &queue[start..next], &mut run);
-    queue::put_all(queue, tail, letters, used, &run[..n])
+    let n = arrive(node, &queue.bytes[start..next], &mut run);
+    queue.mark = queue::put_all(&mut queue.bytes, queue.mark, &run[..n]);
 }
 
-// The first packet of the queue, which stands from `head` to `tail`, is delivered.
-fn deliver(
-    tablet_recv: &mut [u8],
-    tablet_send: &mut [u8],
-    office_recv: &mut [u8],
-    office_send: &mut [u8],
-    queue: &mut [u8],
-    letters: &[u8],
-    head: usize,
-    tail: usize,
-    used: usize,
-) -> Next
-    requires { SomeReady queue.old head tail × (used ≤ length letters.now) }
+// The first packet of the queue is delivered.
+fn deliver(nodes: &mut Nodes, queue: &mut Queue<'_>)
+    requires { SomeReady queue.old.bytes queue.old.head queue.old.mark.tail }
     ensures { (e : List ℕ) (q : List (List ℕ))
-        → Ready queue.old head tail e q
-        → Delivered (deliver_first (e ∷ q)
-        (room_of tablet_recv.old tablet_send.old office_recv.old
-        office_send.old (e ∷ q) (drop used letters.now)))
-        (room_of tablet_recv.new tablet_send.new office_recv.new
-        office_send.new)
-        queue.new letters.now result.head result.tail result.used }
+        → Ready queue.old.bytes queue.old.head queue.old.mark.tail e q
+        → Delivered (deliver_first (e ∷ q) (room_with nodes.old (e ∷ q) queue.old.mark.letters.now))
+        (room_with nodes.new) queue.new.bytes queue.new.head queue.new.mark.tail
+        queue.new.mark.letters.now }
 {
-    let size = queue::first_size(queue, head);
-    let start = head + 2;
-    let next = start + size;
-    if to_office(&queue[start..next]) {
-        let m = hand_over(
-            office_recv,
-            office_send,
-            queue,
-            letters,
-            start,
-            next,
-            tail,
-            used,
-        );
-        return Next {
-            head: next,
-            tail: m.tail,
-            used: m.used,
-        };
+    let start = queue.head + 2;
+    let next = start + queue::first_size(&queue.bytes, queue.head);
+    queue.head = next;
+    if to_office(&queue.bytes[start..next]) {
+        hand_over(&mut nodes.office, queue, start, next);
+        return;
     }
-    let m = hand_over(
-        tablet_recv,
-        tablet_send,
-        queue,
-        letters,
-        start,
-        next,
-        tail,
-        used,
-    );
-    Next {
-        head: next,
-        tail: m.tail,
-        used: m.used,
-    }
+    hand_over(&mut nodes.tablet, queue, start, next);
 }
 
-// A run of the tablet's is put out, and all that waits is delivered, with the replies; answers how many
-// letters are used.
-pub fn settle(
-    tablet_recv: &mut [u8],
-    tablet_send: &mut [u8],
-    office_recv: &mut [u8],
-    office_send: &mut [u8],
-    letters: &[u8],
-    used: usize,
-    run: &[u8],
-) -> usize
-    requires { (length run.now ≤ send_wake_room) × (used ≤ length letters.now) }
-    ensures { let tr = tablet_recv.old in
-        let ts = tablet_send.old in
-        let or = office_recv.old in
-        let os = office_send.old in
-        let before = room_of tr ts or os [] (drop used letters.now) in
-        (room_of tablet_recv.new tablet_send.new office_recv.new
-        office_send.new [] (drop result letters.now)
+// A run of the tablet's is put out, and all that waits is delivered, with the replies; answers the letters to
+// come.
+pub fn settle<'a>(nodes: &mut Nodes, letters: &'a [u8], run: &[u8]) -> &'a [u8]
+    requires { length run.now ≤ send_wake_room }
+    ensures { let before = room_with nodes.old [] letters.now in
+        room_with nodes.new [] result.now
         ≡ settled (record {
           tablet = before.tablet;
           office = before.office;
           link = put_out run.now before.link;
-        }))
-        × (result ≤ length letters.now) }
+        }) }
 {
-    let mut queue = [0u8; QUEUE];
-    let m = queue::put_all(&mut queue, 0, letters, used, run);
-    let mut head: usize = 0;
-    let mut tail = m.tail;
-    let mut next = m.used;
+    let mark = Mark { tail: 0, letters };
+    let mut queue = Queue {
+        bytes: [0; QUEUE],
+        head: 0,
+        mark,
+    };
+    queue.mark = queue::put_all(&mut queue.bytes, mark, run);
     let mut left: usize = DELIVERIES;
-    while head < tail {
-        let d = deliver(
-            tablet_recv,
-            tablet_send,
-            office_recv,
-            office_send,
-            &mut queue,
-            letters,
-            head,
-            tail,
-            next,
-        );
-        head = d.head;
-        tail = d.tail;
-        next = d.used;
+    while queue.head < queue.mark.tail {
+        deliver(nodes, &mut queue);
         left -= 1;
     }
-    next
+    queue.mark.letters
 }

@@ -1,106 +1,57 @@
 // The run: the push, and a round.
 
-ghost use Rattle.std.specs.Prelude.{◌≡◌, [], ◌≤◌, length, drop, replicate};
+ghost use Rattle.std.specs.Prelude.{◌≡◌, [], ◌≤◌};
 ghost use Rattle.machine.specs.Limits.{longest};
-ghost use Rattle.lesson.specs.Lesson.{pushed, round, fresh_store};
-ghost use Rattle.lesson.specs.Steps.{room_of};
+ghost use Rattle.lesson.specs.Lesson.{pushed, round};
+ghost use Rattle.lesson.specs.Steps.{room_with};
 
 use crate::room;
+use crate::room::{Nodes, run_length};
 use calendar::ALWAYS;
+use script::LONGEST;
 
 // The survey's id.
 pub const ID: [u8; 8] = [0, 0, 0, 0, 0, 0, 0, 1];
 
-// The longest survey.
-const LONGEST: usize = 32500;
-
 // The most bytes of a push's run.
 const INIT_RUN: usize = 310;
 
-// A store of 45 cells becomes fresh, in a role.
-pub fn fresh(store: &mut [u8], role: u64)
-    requires { store.old ≡ replicate 64740 0 }
-    ensures { store.new ≡ fresh_store role }
-{
-    message::setup(store, role);
-}
-
-// The push of a survey of n bytes; answers how many letters are used.
-pub fn push(
-    tablet_recv: &mut [u8],
-    tablet_send: &mut [u8],
-    office_recv: &mut [u8],
-    office_send: &mut [u8],
-    letters: &[u8],
-    n: usize,
-) -> usize
+// The push of a survey of n bytes; answers the letters to come.
+pub fn push<'a>(nodes: &mut Nodes, letters: &'a [u8], n: usize) -> &'a [u8]
     requires { n ≤ longest }
-    ensures { (room_of tablet_recv.new tablet_send.new office_recv.new
-        office_send.new [] (drop result letters.now)
-        ≡ pushed n (room_of tablet_recv.old tablet_send.old
-        office_recv.old office_send.old [] letters.now))
-        × (result ≤ length letters.now) }
+    ensures { room_with nodes.new [] result.now ≡ pushed n (room_with nodes.old [] letters.now) }
 {
-    let id = ID;
-    let tablet = room::TABLET;
-    let office = room::OFFICE;
-    let topic = [0u8; 1];
     let survey = [0u8; LONGEST];
     let mut run = [0u8; INIT_RUN];
-    let a = message::push(
-        tablet_send,
-        &id,
+    let count = run_length(message::push(
+        &mut nodes.tablet.send,
+        &ID,
         0,
-        &tablet,
-        &office,
-        &topic[..0],
+        &room::TABLET,
+        &room::OFFICE,
+        &[],
         &survey[..n],
         0,
         0,
         &mut run,
-    );
-    let count = a.run as usize;
-    room::settle(
-        tablet_recv,
-        tablet_send,
-        office_recv,
-        office_send,
-        letters,
-        0,
-        &run[..count],
-    )
+    ));
+    room::settle(nodes, letters, &run[..count])
 }
 
-// Round k: one wake at 100 × k; answers how many letters are used.
-pub fn round(
-    tablet_recv: &mut [u8],
-    tablet_send: &mut [u8],
-    office_recv: &mut [u8],
-    office_send: &mut [u8],
-    letters: &[u8],
-    used: usize,
-    k: u8,
-) -> usize
-    requires { used ≤ length letters.now }
-    ensures { (room_of tablet_recv.new tablet_send.new office_recv.new
-        office_send.new [] (drop result letters.now)
-        ≡ round k (room_of tablet_recv.old tablet_send.old
-        office_recv.old office_send.old [] (drop used letters.now)))
-        × (result ≤ length letters.now) }
+// Round k: one wake at 100 × k; answers the letters to come.
+pub fn round<'a>(nodes: &mut Nodes, letters: &'a [u8], k: u8) -> &'a [u8]
+    ensures { room_with nodes.new [] result.now ≡ round k (room_with nodes.old [] letters.now) }
 {
-    let id = ID;
-    let hours = ALWAYS;
-    let clock = 100 * octets::wide(k);
+    let clock = 100 * u64::from(k);
     let mut run = [0u8; room::RUN];
-    let a = message::wake(tablet_send, 1, &id, clock, &hours, clock, &mut run);
-    let count = a.run as usize;
-    room::settle(
-        tablet_recv,
-        tablet_send,
-        office_recv,
-        office_send,
-        letters,
-        used,
-        &run[..count],
-    )
+    let count = run_length(message::wake(
+        &mut nodes.tablet.send,
+        1,
+        &ID,
+        clock,
+        &ALWAYS,
+        clock,
+        &mut run,
+    ));
+    room::settle(nodes, letters, &run[..count])
 }

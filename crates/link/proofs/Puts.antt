@@ -1,11 +1,11 @@
 -- Laws of putting packets out: an entry that is kept, the ways out of one packet, and a turn of the loop over a run. Assumes nothing.
-use Prim.Native.Nat.{ℕ, suc, ◌+◌, ◌-◌, ◌*◌, ◌≤◌, ◌<◌}
+use Prim.Native.Nat.{ℕ, suc, ◌+◌, ◌*◌, ◌≤◌, ◌<◌}
 use native.Mathlib.Omega.{arith}
 use mathlib.Core.Path.{◌≡◌, refl, sym, ap, ◌∙◌}
 use mathlib.Core.Bool.{Bool, cond}
 use mathlib.Core.List.{List, [], ◌∷◌, ◌++◌, append-nil}
 use lib.ListN.{length, take, drop, length-append, length-drop}
-use lib.Seq.{take_all, drop-drop}
+use lib.Seq.{drop-drop}
 use lib.Dec.{eqb}
 use borrow.Author.Tests.{eq-eqb, ne_eqb}
 use Rattle.octets.specs.Octets.{put, be}
@@ -78,29 +78,23 @@ out-twice b m c e tail s t x y f h k r g i j l =
 abbrev pub added : List ℕ → List ℕ → List ℕ
 added run l = stored (through (entries_of run) l)
 
-pub record Putting (b₀ : List ℕ) (tail used : ℕ) (l run b : List ℕ) (at end next : ℕ) : Type 0 where
-  pub reached : at ≤ length run
-  pub within : next ≤ length l
+-- l₀: the letters at the start, l: those to come, r: the rest of the run
+pub record Putting (b₀ : List ℕ) (tail : ℕ) (l₀ run b r : List ℕ) (end : ℕ) (l : List ℕ) : Type 0 where
+  pub short : length r ≤ length run
   pub kept : length b ≡ length b₀
-  pub room : end + 2 * length (stored (entries_of (drop at run))) ≤ length b₀
-  pub queue : put b end (added (drop at run) (drop next l)) ≡ put b₀ tail (added run (drop used l))
-  pub ends : end + length (added (drop at run) (drop next l)) ≡ tail + length (added run (drop used l))
-  pub letters : drop (length (entries_of (drop at run))) (drop next l) ≡ drop (length (entries_of run)) (drop used l)
-
-pub rest-is : (run : List ℕ) (at : ℕ) → take (length run - at) (drop at run) ≡ drop at run
-rest-is run at = take_all (length run - at) (drop at run) (omega (arith, length-drop at run))
+  pub room : end + 2 * length (stored (entries_of r)) ≤ length b₀
+  pub queue : put b end (added r l) ≡ put b₀ tail (added run l₀)
+  pub ends : end + length (added r l) ≡ tail + length (added run l₀)
+  pub letters : drop (length (entries_of r)) l ≡ drop (length (entries_of run)) l₀
 
 -- the first entry of what is left, and those behind it
-pub next-entry : (run t : List ℕ) (at n : ℕ) → t ≡ drop at run → at < length run → Ends t n
-    → entries_of (drop at run) ≡ take n t ∷ entries_of (drop (at + n) run)
-next-entry run t at n e h d =
-    ap entries_of (sym e) ∙ entries-more t (omega (arith, ap length e ∙ length-drop at run))
-    ∙ (λ i. sym d.first i ∷ entries_of ((sym d.rest ∙ ap (drop n) e ∙ drop-drop n at run) i))
+pub next-entry : (r : List ℕ) (n : ℕ) → 0 < length r → Ends r n → entries_of r ≡ take n r ∷ entries_of (drop n r)
+next-entry r n h d = entries-more r h ∙ (λ i. sym d.first i ∷ entries_of (sym d.rest i))
 
-pub entry-room : (run t : List ℕ) (at n : ℕ) → t ≡ drop at run → at < length run → Ends t n
-    → length (stored (entries_of (drop at run))) ≡ 2 + length (take n t) + length (stored (entries_of (drop (at + n) run)))
-entry-room run t at n e h d =
-    ap (λ (es : List (List ℕ)). length (stored es)) (next-entry run t at n e h d) ∙ stored-length (take n t) (entries_of (drop (at + n) run))
+pub entry-room : (r : List ℕ) (n : ℕ) → 0 < length r → Ends r n
+    → length (stored (entries_of r)) ≡ 2 + length (take n r) + length (stored (entries_of (drop n r)))
+entry-room r n h d =
+    ap (λ (es : List (List ℕ)). length (stored es)) (next-entry r n h d) ∙ stored-length (take n r) (entries_of (drop n r))
 
 added_more : (l e : List ℕ) (es fs : List (List ℕ)) → fs ≡ e ∷ es
     → stored (through fs l) ≡ stored (copies (next_letter l) e) ++ stored (through es (drop 1 l))
@@ -112,50 +106,39 @@ letters-more l e es fs h =
     ap (λ (x : List (List ℕ)). drop (length x) l) h ∙ (let z : suc (length es) ≡ 1 + length es = omega arith in ap (λ (n : ℕ). drop n l) z)
     ∙ sym (drop-drop (length es) 1 l)
 
-pub putting-more : (b₀ : List ℕ) (tail used : ℕ) (l run b : List ℕ) (at end next : ℕ) (t c : List ℕ) (n end' next' : ℕ)
-    → Putting b₀ tail used l run b at end next → t ≡ drop at run → at < length run → Ends t n
-    → After b c end end' (copies (next_letter (drop next l)) (take n t)) → length c ≡ length b → drop next' l ≡ drop 1 (drop next l)
-    → next' ≤ length l → Putting b₀ tail used l run c (at + n) end' next'
-putting-more b₀ tail used l run b at end next t c n end' next' p e h d a k f g =
-    let es : List (List ℕ) = entries_of (drop (at + n) run) in
-    let first = next-entry run t at n e h d in
-    let A : List ℕ = stored (copies (next_letter (drop next l)) (take n t)) in
-    let B : List ℕ = stored (through es (drop next' l)) in
-    let both : added (drop at run) (drop next l) ≡ A ++ B = added_more (drop next l) (take n t) es (entries_of (drop at run)) first
-    ∙ ap (λ (x : List ℕ). A ++ stored (through es x)) (sym f) in
-    let size = entry-room run t at n e h d in
-    let short = copies_length (next_letter (drop next l)) (take n t) in
+pub putting-more : (b₀ : List ℕ) (tail : ℕ) (l₀ run b r : List ℕ) (end : ℕ) (l c : List ℕ) (n end' : ℕ) (l' : List ℕ)
+    → Putting b₀ tail l₀ run b r end l → 0 < length r → Ends r n → After b c end end' (copies (next_letter l) (take n r)) → length c ≡ length b
+    → l' ≡ drop 1 l → Putting b₀ tail l₀ run c (drop n r) end' l'
+putting-more b₀ tail l₀ run b r end l c n end' l' p h d a k f =
+    let es : List (List ℕ) = entries_of (drop n r) in
+    let first = next-entry r n h d in
+    let A : List ℕ = stored (copies (next_letter l) (take n r)) in
+    let B : List ℕ = stored (through es l') in
+    let both : added r l ≡ A ++ B = added_more l (take n r) es (entries_of r) first ∙ ap (λ (x : List ℕ). A ++ stored (through es x)) (sym f) in
+    let size = entry-room r n h d in
+    let least = copies_length (next_letter l) (take n r) in
     let room = p.room in
     let same = p.kept in
     record {
-      reached = omega (arith, d.within, ap length e ∙ length-drop at run);
-      within = g;
+      short = omega (arith, p.short, length-drop n r);
       kept = k ∙ p.kept;
       room = omega (arith, a.1);
-      queue =
-          ap (λ (x : List ℕ). put x end' B) a.0 ∙ put-put b end end' A B (omega arith) a.1 ∙ ap (put b end) (sym both) ∙ p.queue;
-      ends =
-          omega (arith, a.1, p.ends, ap length both ∙ length-append A B);
-      letters =
-          ap (drop (length es)) f ∙ sym (letters-more (drop next l) (take n t) es (entries_of (drop at run)) first) ∙ p.letters;
+      queue = ap (λ (x : List ℕ). put x end' B) a.0 ∙ put-put b end end' A B (omega arith) a.1 ∙ ap (put b end) (sym both) ∙ p.queue;
+      ends = omega (arith, a.1, p.ends, ap length both ∙ length-append A B);
+      letters = ap (drop (length es)) f ∙ sym (letters-more l (take n r) es (entries_of r) first) ∙ p.letters;
     }
 
-pub putting-none : (b₀ : List ℕ) (tail used : ℕ) (l run b : List ℕ) (at end next : ℕ) → Putting b₀ tail used l run b at end next → length run ≤ at
-    → (b ≡ put b₀ tail (added run (drop used l)))
-    × (end ≡ tail + length (added run (drop used l)))
-    × (drop next l ≡ drop (length (entries_of run)) (drop used l))
-    × (next ≤ length l)
+pub putting-none : (b₀ : List ℕ) (tail : ℕ) (l₀ run b r : List ℕ) (end : ℕ) (l : List ℕ) → Putting b₀ tail l₀ run b r end l → length r ≡ 0
+    → (b ≡ put b₀ tail (added run l₀)) × (end ≡ tail + length (added run l₀)) × (l ≡ drop (length (entries_of run)) l₀)
 unfolding through stored
-putting-none b₀ tail used l run b at end next p h =
-    let none : entries_of (drop at run) ≡ [] = entries_none (drop at run) (omega (arith, length-drop at run)) in
-    let nothing : added (drop at run) (drop next l) ≡ [] = ap (λ (es : List (List ℕ)). stored (through es (drop next l))) none in (
+putting-none b₀ tail l₀ run b r end l p h =
+    let none : entries_of r ≡ [] = entries_none r h in
+    let nothing : added r l ≡ [] = ap (λ (es : List (List ℕ)). stored (through es l)) none in (
       sym (put-nil b end) ∙ ap (put b end) (sym nothing) ∙ p.queue,
       omega (arith, p.ends, ap length nothing),
-      sym (ap (λ (es : List (List ℕ)). drop (length es) (drop next l)) none) ∙ p.letters,
-      p.within,
+      sym (ap (λ (es : List (List ℕ)). drop (length es) l) none) ∙ p.letters,
     )
 
-pub putting-start : (b : List ℕ) (tail used : ℕ) (l run : List ℕ) → tail + 2 * length (stored (entries_of run)) ≤ length b → used ≤ length l
-    → Putting b tail used l run b 0 tail used
-putting-start b tail used l run h k =
-    record { reached = omega arith; within = k; kept = refl; room = h; queue = refl; ends = refl; letters = refl }
+pub putting-start : (b : List ℕ) (tail : ℕ) (l run : List ℕ) → tail + 2 * length (stored (entries_of run)) ≤ length b
+    → Putting b tail l run b run tail l
+putting-start b tail l run h = record { short = omega arith; kept = refl; room = h; queue = refl; ends = refl; letters = refl }

@@ -3,7 +3,8 @@
 
 ghost use Rattle.std.specs.Prelude.{◌≡◌, ◌<◌, ◌≤◌, get_or};
 ghost use Rattle.octets.specs.Octets.{part};
-ghost use Rattle.link.specs.Entries.{from_of, to_of, frame_of};
+ghost use Rattle.packet.specs.Frame.{address_size};
+ghost use Rattle.link.specs.Entries.{filled, from_of, to_of, frame_of};
 ghost use Rattle.link.specs.Stored.{Ends};
 
 use octets::copy_in;
@@ -20,10 +21,7 @@ const ADDRESS: usize = 16;
 fn byte(s: &[u8], a: usize) -> usize
     ensures { (result ≡ get_or s.now a 0) × (result < 256) }
 {
-    if a < s.len() {
-        return octets::small(s[a]);
-    }
-    0
+    usize::from(s.get(a).copied().unwrap_or(0))
 }
 
 // Where the first entry of a run ends.
@@ -31,51 +29,44 @@ pub fn first_end(run: &[u8]) -> usize
     ensures { Ends run.now result }
 {
     let end = PACKET + (256 * byte(run, 0) + byte(run, 1));
-    if end > run.len() {
-        return run.len();
-    }
-    end
+    end.min(run.len())
 }
 
 // At most n bytes from a on.
 fn part(s: &[u8], a: usize, n: usize) -> &[u8]
-    requires { n ≤ 16 }
+    requires { (a ≤ 18) × (n ≤ 16) }
     ensures { result.now ≡ part s.now a n }
 {
-    if a > s.len() {
-        return &s[..0];
-    }
-    if n > s.len() - a {
-        return &s[a..];
-    }
-    let e = a + n;
-    &s[a..e]
+    &s[a.min(s.len())..(a + n).min(s.len())]
+}
+
+// The address at a place of an entry.
+fn address(e: &[u8], at: usize) -> [u8; ADDRESS]
+    requires { at ≤ 18 }
+    ensures { result ≡ filled address_size (part e.now at address_size) }
+{
+    let mut out = [0u8; ADDRESS];
+    copy_in(&mut out, 0, part(e, at, ADDRESS));
+    out
 }
 
 // Whom the packet comes from.
-pub fn from_of(e: &[u8]) -> [u8; 16]
+pub fn from_of(e: &[u8]) -> [u8; ADDRESS]
     ensures { result ≡ from_of e.now }
 {
-    let mut out = [0u8; 16];
-    copy_in(&mut out, 0, part(e, FROM, ADDRESS));
-    out
+    address(e, FROM)
 }
 
 // Whom it goes to.
-pub fn to_of(e: &[u8]) -> [u8; 16]
+pub fn to_of(e: &[u8]) -> [u8; ADDRESS]
     ensures { result ≡ to_of e.now }
 {
-    let mut out = [0u8; 16];
-    copy_in(&mut out, 0, part(e, TO, ADDRESS));
-    out
+    address(e, TO)
 }
 
 // The packet, as the frame that came.
 pub fn frame_of(e: &[u8]) -> &[u8]
     ensures { result.now ≡ frame_of e.now }
 {
-    if e.len() < PACKET {
-        return &e[..0];
-    }
-    &e[PACKET..]
+    &e[PACKET.min(e.len())..]
 }

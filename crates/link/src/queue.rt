@@ -8,35 +8,23 @@ ghost use Rattle.link.specs.Link.{copies, next_letter, through};
 ghost use Rattle.link.specs.Stored.{stored_entry, stored, Waits};
 
 use crate::entry;
-use octets::{copy_in, get16, put16};
+use octets::{copy_in, read, write};
 
-// Where the queue ends, and how many letters are used.
+// Where the queue ends, and the letters to come.
 #[derive(Clone, Copy)]
-pub struct Mark {
+pub struct Mark<'a> {
     pub tail: usize,
-    pub used: usize,
+    pub letters: &'a [u8],
 }
 
-// The letter of the next packet: D past the end.
-fn letter(letters: &[u8], used: usize) -> u8
-    ensures { result ≡ next_letter (drop used letters.now) }
+// The letter of the next packet, D past the end, and those to come.
+fn next_letter(letters: &[u8]) -> (u8, &[u8])
+    ensures { (result.0 ≡ next_letter letters.now) × (result.1.now ≡ drop 1 letters.now) }
 {
-    if used < letters.len() {
-        return letters[used];
+    match letters {
+        [letter, rest @ ..] => (*letter, rest),
+        [] => (b'D', letters),
     }
-    b'D'
-}
-
-// One letter more is used, if there is one.
-fn after(letters: &[u8], used: usize) -> usize
-    requires { used ≤ length letters.now }
-    ensures { (drop result letters.now ≡ drop 1 (drop used letters.now))
-        × (result ≤ length letters.now) }
-{
-    if used < letters.len() {
-        return used + 1;
-    }
-    used
 }
 
 // An entry is kept at the end of the queue; answers where the queue ends now.
@@ -45,71 +33,55 @@ fn keep(queue: &mut [u8], tail: usize, e: &[u8]) -> usize
     ensures { (queue.new ≡ put queue.old tail (stored_entry e.now))
         × (result ≡ tail + (2 + length e.now)) }
 {
-    put16(queue, tail, e.len() as u64);
+    write::<2>(queue, tail, e.len() as u64);
     copy_in(queue, tail + 2, e);
     tail + 2 + e.len()
 }
 
 // A packet is put out: by its letter it is kept never, once or twice.
-fn put_out(queue: &mut [u8], tail: usize, letters: &[u8], used: usize, e: &[u8]) -> Mark
-    requires { (tail + 2 * (2 + length e.now) ≤ length queue.old)
-        × (length e.now < 65536)
-        × (used ≤ length letters.now) }
-    ensures { let out = stored (copies (next_letter (drop used letters.now)) e.now) in
-        (queue.new ≡ put queue.old tail out)
-        × (result.tail ≡ tail + length out)
-        × (drop result.used letters.now ≡ drop 1 (drop used letters.now))
-        × (result.used ≤ length letters.now) }
+fn put_out<'a>(queue: &mut [u8], mark: Mark<'a>, e: &[u8]) -> Mark<'a>
+    requires { (mark.tail + 2 * (2 + length e.now) ≤ length queue.old) × (length e.now < 65536) }
+    ensures { let out = stored (copies (next_letter mark.entry.letters.now) e.now) in
+        (queue.new ≡ put queue.old mark.entry.tail out)
+        × (result.tail ≡ mark.entry.tail + length out)
+        × (result.letters.now ≡ drop 1 mark.entry.letters.now) }
 {
-    let x = letter(letters, used);
-    let next = after(letters, used);
-    if x == b'L' {
-        return Mark {
-            tail: tail,
-            used: next,
-        };
+    let (letter, letters) = next_letter(mark.letters);
+    if letter == b'L' {
+        return Mark { letters, ..mark };
     }
-    let once = keep(queue, tail, e);
-    if x != b'R' {
+    let once = keep(queue, mark.tail, e);
+    if letter != b'R' {
         return Mark {
             tail: once,
-            used: next,
+            letters,
         };
     }
     let twice = keep(queue, once, e);
     Mark {
         tail: twice,
-        used: next,
+        letters,
     }
 }
 
 // The packets of a run are put out.
-pub fn put_all(queue: &mut [u8], tail: usize, letters: &[u8], used: usize, run: &[u8]) -> Mark
-    requires { (tail + 2 * length (stored (entries_of run.now)) ≤ length queue.old)
-        × (length run.now < 65536)
-        × (used ≤ length letters.now) }
+pub fn put_all<'a>(queue: &mut [u8], mark: Mark<'a>, run: &[u8]) -> Mark<'a>
+    requires { (mark.tail + 2 * length (stored (entries_of run.now)) ≤ length queue.old)
+        × (length run.now < 65536) }
     ensures { let es = entries_of run.now in
-        let out = stored (through es (drop used letters.now)) in
-        (queue.new ≡ put queue.old tail out)
-        × (result.tail ≡ tail + length out)
-        × (drop result.used letters.now ≡ drop (length es) (drop used letters.now))
-        × (result.used ≤ length letters.now) }
+        let out = stored (through es mark.entry.letters.now) in
+        (queue.new ≡ put queue.old mark.entry.tail out)
+        × (result.tail ≡ mark.entry.tail + length out)
+        × (result.letters.now ≡ drop (length es) mark.entry.letters.now) }
 {
-    let mut at: usize = 0;
-    let mut end = tail;
-    let mut next = used;
-    while at < run.len() {
-        let rest = &run[at..];
-        let n = entry::first_end(rest);
-        let m = put_out(queue, end, letters, next, &rest[..n]);
-        end = m.tail;
-        next = m.used;
-        at += n;
+    let mut end = mark;
+    let mut rest = run;
+    while !rest.is_empty() {
+        let (first, behind) = rest.split_at(entry::first_end(rest));
+        end = put_out(queue, end, first);
+        rest = behind;
     }
-    Mark {
-        tail: end,
-        used: next,
-    }
+    end
 }
 
 // How long the first entry of the queue is.
@@ -117,5 +89,5 @@ pub fn first_size(queue: &[u8], head: usize) -> usize
     requires { head + 2 ≤ length queue.now }
     ensures { (tail : _) (e : _) (q : _) → Waits queue.now head tail (e ∷ q) → result ≡ length e }
 {
-    get16(queue, head) as usize
+    read::<2>(queue, head) as usize
 }

@@ -1,13 +1,15 @@
 // What arrives: packets, and the messages that are whole.
 
 ghost use Rattle.std.specs.Prelude.{◌≡◌};
+ghost use Rattle.answer.specs.Results.{answer_of};
 ghost use Rattle.machine.specs.Packet.{packet_of};
 ghost use Rattle.machine.specs.Take.{take_of};
 
 use crate::step;
 use crate::step::Route;
-use answer::Answer;
-use packet::{header, needed, reader, run};
+use answer::{Done, Refusal};
+use packet::reader::Frame;
+use packet::{header, needed, run};
 use rows::head;
 
 // What the longest reply takes in a run.
@@ -15,6 +17,7 @@ const REPLY_ROOM: usize = run::PACKET + step::DONE_REPLY;
 
 // A packet that came in: `frame` has the bytes received, `known` tells whether the host knows the key of the
 // record's source, `rules` is the rule book, and the reply goes into `run`.
+#[tactic(auto, using(crate::proofs::Packets::packets), unfolding(machine::specs::Refusals::refusal))]
 pub fn packet(
     recv: &mut [u8],
     send: &mut [u8],
@@ -24,9 +27,9 @@ pub fn packet(
     rules: &[u8],
     known: u64,
     run: &mut [u8],
-) -> Answer
+) -> Result<Done, Refusal>
     ensures { record {
-      answer = result;
+      answer = answer_of result;
       recv = recv.new;
       send = send.new;
       out = run.new;
@@ -35,45 +38,44 @@ pub fn packet(
         to.now rules.now known run.old }
 {
     if !soundness::store::sound(recv, head::RECEIVE) {
-        return answer::refuse(answer::UNSOUND_STORE);
+        return Err(Refusal::UnsoundStore);
     }
     if !soundness::store::sound(send, head::SEND) {
-        return answer::refuse(answer::UNSOUND_STORE);
+        return Err(Refusal::UnsoundStore);
     }
     if !needed::is_frame(frame) {
-        return answer::refuse(answer::BAD_FRAME);
+        return Err(Refusal::BadFrame);
     }
     if frame.len() < header::SIZE {
-        return answer::refuse(answer::SHORT_FRAME);
+        return Err(Refusal::ShortFrame);
     }
-    let kind = header::kind_of(reader::flags(frame));
+    let fields = Frame::new(frame);
+    let kind = header::kind_of(fields.flags());
     if !needed::is_enough(kind, frame) {
-        return answer::refuse(answer::SHORT_FRAME);
+        return Err(Refusal::ShortFrame);
     }
-    let effect = step::effect_of(kind);
-    if !effect.any {
-        return answer::refuse(answer::NO_WORK);
-    }
+    let effect = step::effect_of(kind).ok_or(Refusal::NoWork)?;
     if run.len() < REPLY_ROOM {
-        return answer::refuse(answer::SHORT_OUTPUT);
+        return Err(Refusal::ShortOutput);
     }
     let route = Route {
         from: *from,
         to: *to,
     };
-    let number = step::step(kind, recv, send, frame, route, rules, known);
-    if number != answer::DONE {
-        return answer::refuse(number);
-    }
+    step::step(kind, recv, send, fields, route, rules, known)?;
     let length = step::reply(effect.keeps, frame, from, to, run);
-    answer::accept(length as u64, effect.wake)
+    Ok(Done {
+        run: length as u64,
+        wake: effect.wake,
+        pieces: 0,
+    })
 }
 
 // The oldest whole message: its record and its data go into `taken`, its read packet into `run`, and its
 // record is dropped.
-pub fn take(recv: &mut [u8], taken: &mut [u8], run: &mut [u8]) -> Answer
+pub fn take(recv: &mut [u8], taken: &mut [u8], run: &mut [u8]) -> Result<Done, Refusal>
     ensures { record {
-      answer = result;
+      answer = answer_of result;
       recv = recv.new;
       taken = taken.new;
       out = run.new;
@@ -81,7 +83,7 @@ pub fn take(recv: &mut [u8], taken: &mut [u8], run: &mut [u8]) -> Answer
         ≡ take_of recv.old taken.old run.old }
 {
     if !soundness::store::sound(recv, head::RECEIVE) {
-        return answer::refuse(answer::UNSOUND_STORE);
+        return Err(Refusal::UnsoundStore);
     }
     inbox::take::take(recv, taken, run)
 }

@@ -1,11 +1,13 @@
 // What leaves: messages that are pushed, woken and reported on.
 
 ghost use Rattle.std.specs.Prelude.{◌≡◌};
+ghost use Rattle.answer.specs.Answers.{bare};
+ghost use Rattle.answer.specs.Results.{answered, answer_of};
 ghost use Rattle.machine.specs.Push.{push_of};
 ghost use Rattle.machine.specs.Wake.{wake_of};
 ghost use Rattle.machine.specs.Report.{report_of};
 
-use answer::Answer;
+use answer::{Done, Refusal};
 use packet::label::labelled;
 use rows::head;
 
@@ -21,9 +23,9 @@ pub fn push(
     created: u64,
     try_ms: u64,
     run: &mut [u8],
-) -> Answer
+) -> Result<Done, Refusal>
     ensures { record {
-      answer = result;
+      answer = answer_of result;
       send = send.new;
       out = run.new;
     }
@@ -31,7 +33,7 @@ pub fn push(
         topic.now bytes.now created try_ms run.old }
 {
     if !soundness::store::sound(send, head::SEND) {
-        return answer::refuse(answer::UNSOUND_STORE);
+        return Err(Refusal::UnsoundStore);
     }
     let label = labelled(id, from, to, reply != 0, bytes.len() as u64);
     outbox::push::push(send, label, topic, bytes, created, try_ms, run)
@@ -47,27 +49,27 @@ pub fn wake(
     calendar: &[u8],
     unix_ms: u64,
     run: &mut [u8],
-) -> Answer
+) -> Result<Done, Refusal>
     ensures { record {
-      answer = result;
+      answer = answer_of result;
       send = send.new;
       out = run.new;
     }
         ≡ wake_of send.old kind id.now clock calendar.now unix_ms run.old }
 {
     if !soundness::store::sound(send, head::SEND) {
-        return answer::refuse(answer::UNSOUND_STORE);
+        return Err(Refusal::UnsoundStore);
     }
     outbox::wake::wake(send, kind, id, clock, calendar, unix_ms, run)
 }
 
 // The report on the message with that id, into `out`.
-pub fn report(send: &[u8], id: &[u8; 8], out: &mut [u8]) -> Answer
-    ensures { record { answer = result; out = out.new }
+pub fn report(send: &[u8], id: &[u8; 8], out: &mut [u8]) -> Result<(), Refusal>
+    ensures { record { answer = bare (answered result); out = out.new }
         ≡ report_of send.now id.now out.old }
 {
     if !soundness::store::sound(send, head::SEND) {
-        return answer::refuse(answer::UNSOUND_STORE);
+        return Err(Refusal::UnsoundStore);
     }
     outbox::report::report(send, id, out)
 }

@@ -36,7 +36,7 @@ fn packet_from(
     let old_recv = show::copy(recv);
     let old_send = show::copy(send);
     let old_run = show::copy(run);
-    let a = message::packet(recv, send, frame, &from, &to, rules, known, run);
+    let a = Answer::from(message::packet(recv, send, frame, &from, &to, rules, known, run));
     let stores = show::kept(&old_recv, recv, 0) & show::kept(&old_send, send, 0);
     show::line(rt, what, a, stores, show::kept(&old_run, run, a.run))
 }
@@ -107,7 +107,9 @@ pub(crate) fn push(
     let to = [0x11u8; 16];
     let old_send = show::copy(send);
     let old_run = show::copy(run);
-    let a = message::push(send, &id, 0, &from, &to, topic, bytes, created, try_ms, run);
+    let a = Answer::from(message::push(
+        send, &id, 0, &from, &to, topic, bytes, created, try_ms, run,
+    ));
     show::line(
         rt,
         what,
@@ -143,7 +145,7 @@ pub(crate) fn wake_at(
     let id = [0, 0, 0, 0, 0, 0, 0, key];
     let old_send = show::copy(send);
     let old_run = show::copy(run);
-    let a = message::wake(send, kind, &id, 1000, calendar, unix_ms, run);
+    let a = Answer::from(message::wake(send, kind, &id, 1000, calendar, unix_ms, run));
     show::line(
         rt,
         what,
@@ -171,7 +173,7 @@ pub(crate) fn report(
 ) -> io::Result<()> {
     let id = [0, 0, 0, 0, 0, 0, 0, key];
     let old_out = show::copy(out);
-    let a = message::report(send, &id, out);
+    let a = Answer::from(message::report(send, &id, out));
     let buffers = show::kept(&old_out, out, report_bytes(a));
     show::line(rt, what, a, true, buffers)
 }
@@ -196,7 +198,7 @@ pub(crate) fn take(
     let old_recv = show::copy(recv);
     let old_taken = show::copy(taken);
     let old_run = show::copy(run);
-    let a = message::take(recv, taken, run);
+    let a = Answer::from(message::take(recv, taken, run));
     let buffers = show::kept(&old_run, run, a.run)
         & show::kept(&old_taken, taken, taken_bytes(a, length));
     show::line(rt, what, a, show::kept(&old_recv, recv, 0), buffers)

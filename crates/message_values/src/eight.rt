@@ -1,6 +1,7 @@
 // Eight pieces a wake: which of ten go, in which order, and when they want sending again.
 
 use crate::{make, show};
+use answer::Answer;
 use calendar::ALWAYS;
 use std::io;
 
@@ -13,7 +14,7 @@ const INDEX: usize = 53;
 fn indices(rt: &impl Print, run: &[u8], n: u64) -> io::Result<()> {
     let mut at = INDEX;
     for _ in 0..n {
-        show::field(rt, b" ", octets::wide(show::byte(run, at)))?;
+        show::field(rt, b" ", u64::from(show::byte(run, at)))?;
         at = at.wrapping_add(PIECE);
     }
     Ok(())
@@ -23,7 +24,7 @@ fn indices(rt: &impl Print, run: &[u8], n: u64) -> io::Result<()> {
 fn wake(rt: &impl Print, what: &[u8], send: &mut [u8; 37140], clock: u64) -> io::Result<()> {
     let id = [0, 0, 0, 0, 0, 0, 0, 1];
     let mut run = [0xeeu8; 10960];
-    let a = message::wake(send, 1, &id, clock, &ALWAYS, 0, &mut run);
+    let a = Answer::from(message::wake(send, 1, &id, clock, &ALWAYS, 0, &mut run));
     show::say(rt, what)?;
     show::field(rt, b", wake at ", clock)?;
     show::field(rt, b": ", a.number)?;
@@ -41,7 +42,7 @@ fn ten(recv: &mut [u8; 37140], send: &mut [u8; 37140]) {
     let to = [0x11u8; 16];
     let bytes = [7u8; 13000];
     let mut run = [0u8; 310];
-    message::push(send, &id, 0, &from, &to, b"t", &bytes, 0, 0, &mut run);
+    let _ = message::push(send, &id, 0, &from, &to, b"t", &bytes, 0, 0, &mut run);
     make::quiet(recv, send, &make::frame(1, 0x81, 0, 0, 0));
 }
 

@@ -3,6 +3,7 @@
 ghost use Rattle.std.specs.Prelude.{◌<◌};
 
 use crate::{make, show};
+use answer::Answer;
 use std::io;
 
 // Where a refusal that changed something is counted: above every number that there is.
@@ -18,7 +19,7 @@ fn answered(recv: &mut [u8; 37140], send: &mut [u8; 37140], flags: u8, n: usize)
     let old_recv = show::copy(recv);
     let old_send = show::copy(send);
     let old_run = show::copy(&run);
-    let a = message::packet(recv, send, start, &from, &to, b"\0", 1, &mut run);
+    let a = Answer::from(message::packet(recv, send, start, &from, &to, b"\0", 1, &mut run));
     if a.number == 0 {
         return 0;
     }

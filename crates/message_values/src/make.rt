@@ -5,9 +5,9 @@ pub(crate) fn frame(key: u8, flags: u8, first: u64, second: u64, third: u64) -> 
     let mut out = [0u8; 1400];
     out[7] = key;
     out[8] = flags;
-    octets::put64(&mut out, 12, first);
-    octets::put64(&mut out, 20, second);
-    octets::put64(&mut out, 28, third);
+    octets::write::<8>(&mut out, 12, first);
+    octets::write::<8>(&mut out, 20, second);
+    octets::write::<8>(&mut out, 28, third);
     out
 }
 
@@ -53,8 +53,8 @@ pub(crate) fn one_done(key: u8) -> [u8; 1400] {
 
 // Two fresh stores.
 pub(crate) fn fresh(recv: &mut [u8; 37140], send: &mut [u8; 37140]) {
-    message::setup(recv, 1);
-    message::setup(send, 2);
+    let _ = message::setup(recv, 1);
+    let _ = message::setup(send, 2);
 }
 
 // A packet comes in, and no line is written of it.
@@ -67,7 +67,7 @@ pub(crate) fn quiet_from(recv: &mut [u8], send: &mut [u8], sender: u8, frame: &[
     let from = [sender; 16];
     let to = [0x22u8; 16];
     let mut run = [0u8; 86];
-    message::packet(recv, send, frame, &from, &to, b"\0", 1, &mut run);
+    let _ = message::packet(recv, send, frame, &from, &to, b"\0", 1, &mut run);
 }
 
 // A message of 300 bytes is pushed, and no line is written of it.
@@ -77,7 +77,7 @@ pub(crate) fn pushed(send: &mut [u8; 37140], key: u8) {
     let to = [0x11u8; 16];
     let bytes = [7u8; 300];
     let mut run = [0u8; 310];
-    message::push(send, &id, 0, &from, &to, b"t", &bytes, 0, 0, &mut run);
+    let _ = message::push(send, &id, 0, &from, &to, b"t", &bytes, 0, 0, &mut run);
 }
 
 // The id that ends in 1 is arriving with 300 bytes, and leaving in state 1.

@@ -11,8 +11,8 @@ const OTHER: u8 = 0x33;
 
 // Two fresh stores.
 fn fresh(recv: &mut [u8; 64740], send: &mut [u8; 64740]) {
-    message::setup(recv, 1);
-    message::setup(send, 2);
+    let _ = message::setup(recv, 1);
+    let _ = message::setup(send, 2);
 }
 
 // The longest message is announced by a source.

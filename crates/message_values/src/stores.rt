@@ -1,6 +1,7 @@
 // Stores that are not sound or not in their role, and setup.
 
 use crate::{ask, make, show};
+use answer::Answer;
 use std::io;
 
 // Every call on a pair of stores.
@@ -48,7 +49,7 @@ pub(crate) fn one_sound(
 // Setup of a store of that many bytes, in that role.
 fn setup(rt: &impl Print, store: &mut [u8], role: u64) -> io::Result<()> {
     let old = show::copy(store);
-    let a = message::setup(store, role);
+    let a = Answer::from(message::setup(store, role));
     show::field(rt, b"setup ", role)?;
     show::field(rt, b" of ", store.len() as u64)?;
     show::line(rt, b"", a, show::kept(&old, store, 0), true)

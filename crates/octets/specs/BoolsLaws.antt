@@ -1,5 +1,6 @@
 -- Laws of tests: going by cases on a Bool, and taking a conjunction apart. Assumes nothing.
 use Rattle.std.specs.Prelude.{ℕ, ◌≤◌, ◌≡◌, refl, Bool, true, false, ◌&&◌}
+use Rattle.std.specs.Int.{from_bool}
 use Rattle.std.proofs.Common.{arith}
 use Rattle.octets.specs.Bools.{one}
 
@@ -28,3 +29,8 @@ iff false false f g = refl
 pub one-le : (p : Bool) → one p ≤ 1
 one-le true = omega arith
 one-le false = omega arith
+
+-- the library's number of a test
+pub one_is : (b : Bool) → from_bool b ≡ one b
+one_is true = refl
+one_is false = refl

@@ -1,6 +1,7 @@
 // Acknowledgements and the read: the office tells how far it is. Document 01: "Ack init 0 to 1, ack done 1 to
 // 2, read 2 to 3; ack chunk needs 1 and marks its piece Acked. Any other state is 18."
 ghost use Rattle.std.specs.Prelude.{◌≡◌, ◌≤◌};
+ghost use Rattle.answer.specs.Results.{answered};
 ghost use Rattle.machine.specs.Codes.{state_aborted};
 ghost use Rattle.machine.specs.Layout.{decode};
 ghost use Rattle.machine.specs.Receive.{found};
@@ -10,48 +11,49 @@ ghost use Rattle.machine.specs.Packet.{state_row, ack_chunk_row};
 ghost use Rattle.records.specs.HeldAt.{Sends};
 ghost use Rattle.records.specs.Step.{stepped};
 
+use answer::Refusal;
 use records::{field, find};
 use rows::record::IN_PROGRESS;
 
-// Ack init, ack done and read: the number, and the store with the record in its next state.
-pub fn advance(send: &mut [u8], id: &[u8], state: u8, next: u8) -> u64
+// Ack init, ack done and read: the refusal, or the store with the record in its next state.
+pub fn advance(send: &mut [u8], id: &[u8], state: u8, next: u8) -> Result<(), Refusal>
     requires { Sends send.old × (next ≤ state_aborted) }
     ensures { let b = send.old in
         let k = id.now in
         let s = decode b in
-        record { number = result; store = send.new }
+        record { number = answered result; store = send.new }
         ≡ stepped (refusal (state_row state (found k s.held))) (change (with_state next) k s) b }
 {
     let link = find::find_held(send, id);
     if send[link] == 0 {
-        return answer::UNKNOWN_ID;
+        return Err(Refusal::UnknownId);
     }
     if field::state(send, link) != state {
-        return answer::WRONG_STATE;
+        return Err(Refusal::WrongState);
     }
     records::restate::set_state(send, link, next);
-    answer::DONE
+    Ok(())
 }
 
-// Ack chunk: the number, and the store with the piece acknowledged.
-pub fn ack_chunk(send: &mut [u8], id: &[u8], index: u64) -> u64
+// Ack chunk: the refusal, or the store with the piece acknowledged.
+pub fn ack_chunk(send: &mut [u8], id: &[u8], index: u64) -> Result<(), Refusal>
     requires { Sends send.old }
     ensures { let b = send.old in
         let k = id.now in
         let s = decode b in
-        record { number = result; store = send.new }
+        record { number = answered result; store = send.new }
         ≡ stepped (refusal (ack_chunk_row index (found k s.held))) (change (ack_piece index) k s) b }
 {
     let link = find::find_held(send, id);
     if send[link] == 0 {
-        return answer::UNKNOWN_ID;
+        return Err(Refusal::UnknownId);
     }
     if field::state(send, link) != IN_PROGRESS {
-        return answer::WRONG_STATE;
+        return Err(Refusal::WrongState);
     }
     if index >= pieces::held::count_pieces(send, link) {
-        return answer::NO_SUCH_PIECE;
+        return Err(Refusal::NoSuchPiece);
     }
     pieces::ack::ack(send, link, index);
-    answer::DONE
+    Ok(())
 }

@@ -7,7 +7,6 @@ ghost use Rattle.outbox.specs.Leaves.{Here};
 ghost use Rattle.outbox.specs.Line.{turn, put_in, places_of};
 
 use crate::piece::{NEVER, rank};
-use octets::small;
 use records::field::first_cell;
 use rows::cell::{STEPS, cell_at};
 
@@ -19,14 +18,12 @@ fn turn_of(ranks: &[u64; 8], rank: u64) -> usize
     requires { length ranks.now ≡ most_sent }
     ensures { result ≡ turn rank ranks.now }
 {
-    let mut i: usize = 0;
-    while i < MOST {
+    for i in 0..MOST {
         if rank < ranks[i] {
             return i;
         }
-        i += 1;
     }
-    i
+    MOST
 }
 
 // A number comes into the line at a place: those from there on move up, and the last one goes.
@@ -35,12 +32,10 @@ fn put_in(line: &mut [u64; 8], at: usize, number: u64)
     ensures { line.new ≡ put_in at number line.old }
 {
     let mut moved = number;
-    let mut i = at;
-    while i < MOST {
+    for i in at..MOST {
         let old = line[i];
         line[i] = moved;
         moved = old;
-        i += 1;
     }
 }
 
@@ -53,8 +48,7 @@ pub fn choose(send: &[u8], link: usize, clock: u64) -> [u64; 8]
     let mut ranks = [NEVER; 8];
     let mut places = [0u64; 8];
     let mut place = first_cell(send, link);
-    let mut n: usize = 0;
-    while n < STEPS {
+    for n in 0..STEPS {
         if place == 0 {
             return places;
         }
@@ -63,8 +57,7 @@ pub fn choose(send: &[u8], link: usize, clock: u64) -> [u64; 8]
         put_in(&mut ranks, at, rank);
         put_in(&mut places, at, place as u64);
         let row = cell_at(place);
-        place = small(send[row]);
-        n += 1;
+        place = usize::from(send[row]);
     }
     places
 }

@@ -32,8 +32,7 @@ pub fn send_due(send: &mut [u8], link: usize, names: &[u8], clock: u64, run: &mu
 {
     let places = choose(send, link, clock);
     let mut at: usize = 0;
-    let mut n: usize = 0;
-    while n < MOST {
+    for n in 0..MOST {
         let place = places[n] as usize;
         if place == 0 {
             return Sent {
@@ -42,10 +41,9 @@ pub fn send_due(send: &mut [u8], link: usize, names: &[u8], clock: u64, run: &mu
             };
         }
         at = send_piece(send, place, names, clock, run, at);
-        n += 1;
     }
     Sent {
         end: at,
-        pieces: n as u64,
+        pieces: MOST as u64,
     }
 }

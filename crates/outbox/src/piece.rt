@@ -8,7 +8,7 @@ ghost use Rattle.outbox.specs.Line.{ranked};
 ghost use Rattle.outbox.specs.Sending.{chunk_of, Turn, Sends};
 
 use crate::record::{DESTINATION, NAMES, SOURCE};
-use octets::{get16, get64, wide};
+use octets::read;
 use packet::chunk::MessageChunk;
 use packet::run;
 use pieces::row::mark;
@@ -42,7 +42,7 @@ pub fn rank(send: &[u8], place: usize, clock: u64) -> u64
     if state == STARTED {
         return 0;
     }
-    let stamp = get64(send, row + Cell::STAMP);
+    let stamp = read::<8>(send, row + Cell::STAMP);
     if (state == SENT) & passed(stamp, clock) {
         return stamp + 1;
     }
@@ -56,8 +56,8 @@ fn put_piece(send: &[u8], place: usize, names: &[u8], run: &mut [u8], at: usize)
         (result ≡ at + length chunk) × (run.new ≡ put run.old at chunk) }
 {
     let row = cell_at(place);
-    let index = wide(send[row + Cell::INDEX]);
-    let size = get16(send, row + Cell::SIZE) as usize;
+    let index = u64::from(send[row + Cell::INDEX]);
+    let size = read::<2>(send, row + Cell::SIZE) as usize;
     let start = row + Cell::PIECE;
     let end = start + size;
     let position = run::Position {

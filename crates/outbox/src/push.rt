@@ -1,5 +1,6 @@
 // Push: a message starts to leave. Its data is cut by 1,300 into free cells, its record is opened, and its init is sent.
 ghost use Rattle.std.specs.Prelude.{◌≡◌, [], ◌<◌, ◌≤◌, length, leb};
+ghost use Rattle.answer.specs.Results.{answered, answer_of};
 ghost use Rattle.packet.specs.Named.{Named};
 ghost use Rattle.machine.specs.Limits.{longest, slots_of};
 ghost use Rattle.machine.specs.Layout.{number_limit, encode, decode};
@@ -11,7 +12,7 @@ ghost use Rattle.records.specs.HeldAt.{Sends};
 ghost use Rattle.records.specs.Opening.{new_label};
 ghost use Rattle.outbox.specs.Pushing.{Pushable, first_place, pushes, pushed_into};
 
-use answer::Answer;
+use answer::{Done, Refusal};
 use packet::init::MessageInit;
 use packet::label::Label;
 use packet::run;
@@ -46,33 +47,33 @@ fn refusal(
     created: u64,
     try_ms: u64,
     room: usize,
-) -> u64
+) -> Result<(), Refusal>
     requires { Sends send.now }
     ensures { let p = pushed id.now 0 [] [] topic.now bytes.now created try_ms in
-        result ≡ refusal (push_tests p (decode send.now) room) }
+        answered result ≡ refusal (push_tests p (decode send.now) room) }
 {
     if room < ROOM {
-        return answer::SHORT_OUTPUT;
+        return Err(Refusal::ShortOutput);
     }
     if topic.len() > LARGEST_TOPIC {
-        return answer::TOPIC_TOO_LARGE;
+        return Err(Refusal::TopicTooLarge);
     }
     if bytes.len() > message::LONGEST_BYTES {
-        return answer::TOO_LONG;
+        return Err(Refusal::TooLong);
     }
     if created > LATEST - try_ms {
-        return answer::CLOCK;
+        return Err(Refusal::Clock);
     }
     if find::is_held(send, id) {
-        return answer::ID_IN_USE;
+        return Err(Refusal::IdInUse);
     }
     if !find::is_free(send) {
-        return answer::NO_RECORD;
+        return Err(Refusal::NoRecord);
     }
     if !has_cells(send, bytes.len()) {
-        return answer::NO_CELL;
+        return Err(Refusal::NoCell);
     }
-    answer::DONE
+    Ok(())
 }
 
 // The place of the first piece of a message: the first free cell, 0 where it has none.
@@ -108,24 +109,25 @@ pub fn push(
     created: u64,
     try_ms: u64,
     run: &mut [u8],
-) -> Answer
+) -> Result<Done, Refusal>
     requires { Sends send.old × Named label × (label.total ≡ length bytes.now) }
     ensures { let b = send.old in
         let o = run.old in
         let p = pushes label topic.now bytes.now created try_ms in
-        record { answer = result; send = send.new; out = run.new }
+        record { answer = answer_of result; send = send.new; out = run.new }
         ≡ send_at (refusal (push_tests p (decode b) (length o))) (pushed_into p (decode b)) (init_out (push_label p)) 0 b o }
 {
     let id = label.id;
-    let number = refusal(send, &id, topic, bytes, created, try_ms, run.len());
-    if number != answer::DONE {
-        return answer::refuse(number);
-    }
+    refusal(send, &id, topic, bytes, created, try_ms, run.len())?;
     let times = Times {
-        created: created,
+        created,
         end: created + try_ms,
     };
     hold(send, label, topic, bytes, times);
     run::put_init(run, 0, label, topic);
-    answer::sent((run::PACKET + MessageInit::TOPIC + topic.len()) as u64, 0)
+    let end = run::PACKET + MessageInit::TOPIC + topic.len();
+    Ok(Done {
+        run: end as u64,
+        ..Done::NOTHING
+    })
 }

@@ -3,6 +3,8 @@
 ghost use Rattle.std.specs.Prelude.{◌≡◌, ◌≤◌, length};
 ghost use Rattle.std.proofs.Math.Option.{some};
 ghost use Rattle.octets.specs.Octets.{put};
+ghost use Rattle.answer.specs.Answers.{bare};
+ghost use Rattle.answer.specs.Results.{answered};
 ghost use Rattle.machine.specs.Layout.{decode};
 ghost use Rattle.machine.specs.Receive.{found};
 ghost use Rattle.machine.specs.Refusals.{refusal};
@@ -11,8 +13,8 @@ ghost use Rattle.records.specs.HeldAt.{rec_in, Sends};
 ghost use Rattle.outbox.specs.Leaves.{Here};
 ghost use Rattle.outbox.specs.Rows.{report_tests};
 
-use answer::Answer;
-use octets::{copy_in, put64};
+use answer::Refusal;
+use octets::{copy_in, write};
 use records::field;
 use rows::cell::{ACKED, SENT, STARTED};
 use rows::record::IN_PROGRESS;
@@ -57,26 +59,26 @@ fn put_report(send: &[u8], link: usize, out: &mut [u8])
     ];
     copy_in(out, 0, field::destination(send, link));
     copy_in(out, MARKS, &marks);
-    put64(out, CREATED, field::created(send, link) / SECOND);
-    put64(out, END, field::end(send, link) / SECOND);
-    put64(out, LENGTH, field::total(send, link));
+    write::<8>(out, CREATED, field::created(send, link) / SECOND);
+    write::<8>(out, END, field::end(send, link) / SECOND);
+    write::<8>(out, LENGTH, field::total(send, link));
 }
 
 // The report on the message with that id, into its buffer.
-pub fn report(send: &[u8], id: &[u8], out: &mut [u8]) -> Answer
+pub fn report(send: &[u8], id: &[u8], out: &mut [u8]) -> Result<(), Refusal>
     requires { Sends send.now }
     ensures { let o = found id.now (decode send.now).held in
         let buffer = out.old in
-        record { answer = result; out = out.new }
+        record { answer = bare (answered result); out = out.new }
         ≡ report_at (refusal (report_tests buffer o)) o buffer }
 {
     if out.len() < ROOM {
-        return answer::refuse(answer::SHORT_OUTPUT);
+        return Err(Refusal::ShortOutput);
     }
     let link = records::find::find_held(send, id);
     if send[link] == 0 {
-        return answer::refuse(answer::UNKNOWN_ID);
+        return Err(Refusal::UnknownId);
     }
     put_report(send, link, out);
-    answer::sent(0, 0)
+    Ok(())
 }

@@ -1,6 +1,7 @@
 // The wakes: PROTOCOL, "The tablet".
 ghost use Rattle.std.specs.Prelude.{◌≡◌, true, not, ◌||◌, ◌≤◌, length, eqb};
 ghost use Rattle.std.proofs.Math.Option.{some};
+ghost use Rattle.answer.specs.Results.{answer_of};
 ghost use Rattle.machine.specs.Codes.{role_send};
 ghost use Rattle.machine.specs.Layout.{decode};
 ghost use Rattle.machine.specs.Refusals.{refusal};
@@ -19,7 +20,7 @@ use crate::done::{all_acked, put_done};
 use crate::due::{Sent, send_due};
 use crate::init::put_init;
 use crate::record::names_at;
-use answer::Answer;
+use answer::{Done, Refusal};
 use calendar::{is_open, well_formed};
 use packet::chunk::MessageChunk;
 use packet::{header, run};
@@ -41,10 +42,7 @@ const DEADLINE_ROOM: usize = run::PACKET + header::SIZE;
 fn other(end: usize) -> Sent
     ensures { (result.end ≡ end) × (result.pieces ≡ 0) }
 {
-    Sent {
-        end: end,
-        pieces: 0,
-    }
+    Sent { end, pieces: 0 }
 }
 
 // A record in progress: the done once every piece is acknowledged, else the pieces whose turn it is.
@@ -149,31 +147,35 @@ pub fn wake(
     calendar: &[u8],
     unix_ms: u64,
     run: &mut [u8],
-) -> Answer
+) -> Result<Done, Refusal>
     requires { Sends send.old }
     ensures { let b = send.old in
         let out = run.old in
         let w = waking kind id.now clock calendar.now unix_ms in
         record {
-          answer = result;
+          answer = answer_of result;
           send = send.new;
           out = run.new;
         }
         ≡ wake_at (refusal (wake_tests w (decode b) (length out))) w b out }
 {
     if !is_kind(kind) {
-        return answer::refuse(answer::NO_WORK);
+        return Err(Refusal::NoWork);
     }
     if !is_dated(kind, calendar) {
-        return answer::refuse(answer::BAD_CALENDAR);
+        return Err(Refusal::BadCalendar);
     }
     if run.len() < room(kind) {
-        return answer::refuse(answer::SHORT_OUTPUT);
+        return Err(Refusal::ShortOutput);
     }
     let link = records::find::find_held(send, id);
     if send[link] == 0 {
-        return answer::refuse(answer::UNKNOWN_ID);
+        return Err(Refusal::UnknownId);
     }
     let sent = wake_record(send, kind, link, clock, calendar, unix_ms, run);
-    answer::sent(sent.end as u64, sent.pieces)
+    Ok(Done {
+        run: sent.end as u64,
+        wake: 0,
+        pieces: sent.pieces,
+    })
 }

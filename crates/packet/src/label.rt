@@ -14,24 +14,12 @@ pub struct Label {
     pub total: u64,
 }
 
-// An id of 8 bytes, as a value.
-fn id_of(bytes: &[u8]) -> [u8; 8]
-    requires { length bytes.now ≡ id_size }
+// The bytes as an array.
+fn array_of<const N: usize>(bytes: &[u8]) -> [u8; N]
+    requires { length bytes.now ≡ N }
     ensures { result ≡ bytes.now }
 {
-    let mut id = [0u8; 8];
-    octets::copy_in(&mut id, 0, bytes);
-    id
-}
-
-// An address of 16 bytes, as a value.
-fn address_of(bytes: &[u8]) -> [u8; 16]
-    requires { length bytes.now ≡ address_size }
-    ensures { result ≡ bytes.now }
-{
-    let mut address = [0u8; 16];
-    octets::copy_in(&mut address, 0, bytes);
-    address
+    <[u8; N]>::try_from(bytes).unwrap()
 }
 
 // The label with these fields.
@@ -43,14 +31,11 @@ pub fn labelled(id: &[u8], source: &[u8], destination: &[u8], reply: bool, total
         (result ≡ record { id = id.entry.now; source = s; destination = d; reply = reply; total = total }) ×
         Named result }
 {
-    let i = id_of(id);
-    let s = address_of(source);
-    let d = address_of(destination);
     Label {
-        id: i,
-        source: s,
-        destination: d,
-        reply: reply,
-        total: total,
+        id: array_of(id),
+        source: array_of(source),
+        destination: array_of(destination),
+        reply,
+        total,
     }
 }

@@ -5,7 +5,6 @@
 
 pub mod chunk;
 pub mod done;
-pub(crate) mod field;
 pub mod header;
 pub mod init;
 pub mod label;

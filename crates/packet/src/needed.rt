@@ -7,6 +7,7 @@ use crate::chunk::MessageChunk;
 use crate::done::MessageDone;
 use crate::header::{Kind, SIZE};
 use crate::init::MessageInit;
+use crate::reader::Frame;
 
 // The bytes of the largest frame.
 const LARGEST: usize = 1400;
@@ -15,25 +16,22 @@ const LARGEST: usize = 1400;
 pub fn is_frame(frame: &[u8]) -> bool
     ensures { result ≡ is_frame frame.now }
 {
-    if frame.len() == 0 {
-        return false;
-    }
-    frame.len() <= LARGEST
+    (1..=LARGEST).contains(&frame.len())
 }
 
-// Whether all came that a packet of this kind needs.
+// Whether all came that a packet of this kind needs. A size that the frame tells is compared with what is left of the
+// frame, so that none is too large to add.
 pub fn is_enough(kind: Kind, frame: &[u8]) -> bool
     ensures { result ≡ is_enough kind frame.now }
 {
+    let len = frame.len();
     match kind {
-        Kind::Init => MessageInit::came(frame),
-        Kind::Chunk => MessageChunk::came(frame),
-        Kind::Done => frame.len() >= MessageDone::SIZE,
-        Kind::Read => frame.len() >= SIZE,
-        Kind::Aborted => frame.len() >= SIZE,
-        Kind::AckInit => frame.len() >= SIZE,
-        Kind::AckChunk => frame.len() >= MessageChunk::PIECE,
-        Kind::AckDone => frame.len() >= SIZE,
-        Kind::Nothing => frame.len() >= SIZE,
+        Kind::Init => len >= MessageInit::TOPIC
+            && Frame::new(frame).topic_size() <= len - MessageInit::TOPIC,
+        Kind::Chunk => len >= MessageChunk::PIECE
+            && Frame::new(frame).size_field() <= (len - MessageChunk::PIECE) as u64,
+        Kind::AckChunk => len >= MessageChunk::PIECE,
+        Kind::Done => len >= MessageDone::SIZE,
+        Kind::Read | Kind::Aborted | Kind::AckInit | Kind::AckDone | Kind::Nothing => len >= SIZE,
     }
 }

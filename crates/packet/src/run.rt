@@ -1,5 +1,8 @@
 // A run: outgoing packets, each behind its byte count, its from-address and its to-address. Bytes past what
 // is written stay.
+
+#![tactic(auto, using(crate::proofs::Writes::entries))]
+
 ghost use Rattle.std.specs.Prelude.{◌≡◌, ◌++◌, ◌+◌, ◌<◌, ◌≤◌, length};
 ghost use Rattle.octets.specs.Octets.{put, be};
 ghost use Rattle.packet.specs.Frame.{id_size, sum_size, after_flags_at, body_at, init_topic_at, chunk_piece_at, done_end};
@@ -8,7 +11,7 @@ ghost use Rattle.packet.specs.Room.{entry_front, Room};
 
 use crate::chunk::MessageChunk;
 use crate::done::MessageDone;
-use crate::header::{FLAGS, REST};
+use crate::header::{self, FLAGS};
 use crate::init::MessageInit;
 use crate::label::Label;
 
@@ -19,13 +22,14 @@ pub const TO: usize = FROM + 16;
 
 pub const PACKET: usize = TO + 16;
 
-// What stands before a packet of n bytes, written at a.
+// What stands before a packet of n bytes, written at a. Both addresses are slices, here and below, since callers lend
+// parts of their stores: a struct of the two would be made for each call alone.
 fn put_front(run: &mut [u8], a: usize, from: &[u8], to: &[u8], n: usize)
     requires { Room run.old a from.now to.now n }
     ensures { run.new
         ≡ put run.old a (be 2 n ++ from.now ++ to.now) }
 {
-    octets::put16(run, a, n as u64);
+    octets::write::<2>(run, a, n as u64);
     octets::copy_in(run, a + FROM, from);
     octets::copy_in(run, a + TO, to);
 }
@@ -37,11 +41,14 @@ pub fn put_init(run: &mut [u8], a: usize, label: Label, topic: &[u8])
     ensures { let packet = init_packet label.id label.reply label.total topic.now in
         run.new ≡ put run.old a (entry label.source label.destination packet) }
 {
-    let id = label.id;
-    let from = label.source;
-    let to = label.destination;
-    put_front(run, a, &from, &to, MessageInit::TOPIC + topic.len());
-    MessageInit::put(run, a + PACKET, &id, label.reply, label.total, topic);
+    put_front(
+        run,
+        a,
+        &label.source,
+        &label.destination,
+        MessageInit::TOPIC + topic.len(),
+    );
+    MessageInit::put(run, a + PACKET, &label.id, label.reply, label.total, topic);
 }
 
 // Where a piece stands in its message: its index, and its offset in bytes.
@@ -92,8 +99,8 @@ pub fn put_header(run: &mut [u8], a: usize, from: &[u8], to: &[u8], id: &[u8], f
         ≡ put run.old a
         (entry from.now to.now (header id.now flags)) }
 {
-    put_front(run, a, from, to, crate::header::SIZE);
-    crate::header::put(run, a + PACKET, id, flags);
+    put_front(run, a, from, to, header::SIZE);
+    header::put(run, a + PACKET, id, flags);
 }
 
 // The entry of a reply: the frame's first n bytes with the ack flag set.
@@ -105,8 +112,6 @@ pub fn put_reply(run: &mut [u8], a: usize, from: &[u8], to: &[u8], frame: &[u8],
         (entry from.now to.now (reply_packet n frame.now)) }
 {
     put_front(run, a, from, to, n);
-    let flags = [crate::header::flags(frame) | crate::header::FLAG_ACK];
-    octets::copy_in(run, a + PACKET, &frame[0..FLAGS]);
-    octets::copy_in(run, a + PACKET + FLAGS, &flags);
-    octets::copy_in(run, a + PACKET + REST, &frame[REST..n]);
+    octets::copy_in(run, a + PACKET, &frame[..n]);
+    run[a + PACKET + FLAGS] |= header::FLAG_ACK;
 }

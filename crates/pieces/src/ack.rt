@@ -8,7 +8,6 @@ ghost use Rattle.records.specs.HeldAt.{rec_in, key_in, HeldAt};
 use crate::held::first_link;
 use crate::row::mark;
 use crate::walk::spot;
-use octets::small;
 use rows::cell::ACKED;
 
 // The piece at an index of the held record whose link stands at byte `link` becomes Acked.
@@ -19,6 +18,6 @@ pub fn ack(store: &mut [u8], link: usize, index: u64)
 {
     let first = first_link(store, link);
     let found = spot(store, first, index);
-    let place = small(store[found]);
+    let place = usize::from(store[found]);
     mark(store, place, 0, ACKED);
 }

@@ -10,7 +10,7 @@ ghost use Rattle.pieces.specs.InPlace.{CellIn};
 ghost use Rattle.pieces.specs.Laying.{piece_laid};
 
 use crate::row::put_cell;
-use octets::{copy_in, small};
+use octets::copy_in;
 use rows::cell::cell_at;
 use rows::head::Head;
 use rows::message::CUT_BYTES;
@@ -47,7 +47,7 @@ pub fn cut(store: &mut [u8], bytes: &[u8])
     let mut index: u8 = 0;
     let mut at: usize = 0;
     while at < bytes.len() {
-        free = lay(store, small(free), index, &bytes[at..]);
+        free = lay(store, usize::from(free), index, &bytes[at..]);
         index += 1;
         at += CUT_BYTES;
     }

@@ -13,7 +13,6 @@ ghost use Rattle.pieces.specs.InPlace.{piece_state, first_link, LinkIn, Spot};
 
 use crate::insert::holds;
 use crate::walk::{cells, count, join, spot, total};
-use octets::small;
 use records::field::first_cell;
 use rows::message::LONGEST_BYTES;
 use rows::record::{Record, record_at};
@@ -24,7 +23,7 @@ pub fn first_link(store: &[u8], link: usize) -> usize
     ensures { let b = store.now in
         (result ≡ first_link (place_at b link)) × LinkIn b result }
 {
-    record_at(small(store[link])) + Record::FIRST_CELL
+    record_at(usize::from(store[link])) + Record::FIRST_CELL
 }
 
 // How many pieces the record has.

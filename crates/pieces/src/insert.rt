@@ -1,5 +1,5 @@
 // A piece comes to its record: in its own cell where its index is held, and else in the first free cell, in index order.
-ghost use Rattle.std.specs.Prelude.{◌≡◌, true, false, ◌+◌, ◌≤◌, ◌<◌, max, length, get_or};
+ghost use Rattle.std.specs.Prelude.{◌≡◌, true, false, ◌+◌, ◌≤◌, ◌<◌, length, get_or};
 ghost use Rattle.machine.specs.Limits.{rec_count, rec_bytes, most_of_source, top_of};
 ghost use Rattle.machine.specs.Codes.{role_receive};
 ghost use Rattle.machine.specs.Layout.{free_cells_at, rec_off, encode, decode};
@@ -11,17 +11,10 @@ ghost use Rattle.records.specs.HeldAt.{place_at, rec_in, key_in, HeldAt};
 ghost use Rattle.pieces.specs.InPlace.{holds_index, grown, inserted, chunked, LinkIn, Spot, PieceFits};
 
 use crate::row::{put_cell, rewrite};
-use octets::{copy_in, small, wide};
+use octets::copy_in;
 use rows::cell::{Cell, cell_at};
 use rows::head::Head;
 use rows::record::{Record, record_at};
-
-// The larger of two numbers.
-fn larger(a: u64, b: u64) -> u64
-    ensures { result ≡ max a b }
-{
-    if a < b { b } else { a }
-}
 
 // A record's slots, grown to index + 1.
 pub fn grow(store: &mut [u8], place: usize, index: u64)
@@ -30,7 +23,7 @@ pub fn grow(store: &mut [u8], place: usize, index: u64)
     ensures { store.new ≡ grown store.old place index }
 {
     let at = record_at(place) + Record::SLOTS;
-    let slots = larger(wide(store[at]), index + 1);
+    let slots = u64::from(store[at]).max(index + 1);
     let one = [slots as u8];
     copy_in(store, at, &one);
 }
@@ -40,12 +33,12 @@ pub fn holds(store: &[u8], link: usize, index: u64) -> bool
     requires { Links store.now × LinkIn store.now link }
     ensures { result ≡ holds_index store.now link index }
 {
-    let place = small(store[link]);
+    let place = usize::from(store[link]);
     if place == 0 {
         return false;
     }
     let row = cell_at(place);
-    index == wide(store[row + Cell::INDEX])
+    index == u64::from(store[row + Cell::INDEX])
 }
 
 // A new piece in the first free cell, put into the record's chain at the link at byte `link`.
@@ -55,7 +48,7 @@ pub fn insert(store: &mut [u8], place: usize, link: usize, index: u64, bytes: &[
     ensures { store.new ≡ inserted store.old place link index bytes.now }
 {
     let free = store[Head::FREE_CELLS];
-    let cell = small(free);
+    let cell = usize::from(free);
     let row = cell_at(cell);
     let after = store[row];
     let next = store[link];
@@ -75,7 +68,7 @@ fn put_in(store: &mut [u8], place: usize, link: usize, index: u64, bytes: &[u8])
     ensures { store.new ≡ chunked store.old place index bytes.now }
 {
     if holds(store, link, index) {
-        let cell = small(store[link]);
+        let cell = usize::from(store[link]);
         rewrite(store, cell, bytes);
     } else {
         insert(store, place, link, index, bytes);
@@ -92,6 +85,6 @@ pub fn put_piece(store: &mut [u8], link: usize, spot: usize, index: u64, bytes: 
     ensures { let b = store.old in
         store.new ≡ encode (chunk_step (key_in b link) index bytes.now (decode b)) }
 {
-    let place = small(store[link]);
+    let place = usize::from(store[link]);
     put_in(store, place, spot, index, bytes);
 }

@@ -6,7 +6,7 @@ ghost use Rattle.octets.specs.Octets.{put};
 ghost use Rattle.packet.specs.Frame.{largest_piece};
 ghost use Rattle.pieces.specs.InPlace.{rewritten, remarked, CellIn};
 
-use octets::{copy_in, fill, put16, put64};
+use octets::{copy_in, fill, write};
 use rows::cell::{Cell, LARGEST, cell_at};
 
 // A cell's whole row, with a piece that has just come; zeros past the piece.
@@ -19,7 +19,7 @@ pub fn put_cell(store: &mut [u8], place: usize, next: u8, index: u8, bytes: &[u8
     let size = bytes.len();
     let front = [next, index];
     copy_in(store, row, &front);
-    put16(store, row + Cell::SIZE, size as u64);
+    write::<2>(store, row + Cell::SIZE, size as u64);
     fill(store, row + Cell::STAMP, Cell::PIECE - Cell::STAMP, 0);
     copy_in(store, row + Cell::PIECE, bytes);
     fill(store, row + Cell::PIECE + size, LARGEST - size, 0);
@@ -42,7 +42,7 @@ pub fn mark(store: &mut [u8], place: usize, stamp: u64, state: u8)
     ensures { store.new ≡ remarked store.old place stamp state }
 {
     let row = cell_at(place);
-    put64(store, row + Cell::STAMP, stamp);
+    write::<8>(store, row + Cell::STAMP, stamp);
     let one = [state];
     copy_in(store, row + Cell::STATE, &one);
 }

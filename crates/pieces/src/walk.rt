@@ -1,7 +1,6 @@
 // Walks along a chain of cells: the spot of an index, the pieces joined, and how many cells, bytes and pieces of a state
 // there are.
-ghost use Rattle.std.specs.Prelude.{◌≡◌, map, suc, ◌+◌, ◌≤◌, length, get_or, eqb};
-ghost use Rattle.octets.specs.Bools.{one};
+ghost use Rattle.std.specs.Prelude.{◌≡◌, map, suc, ◌+◌, ◌≤◌, length, get_or};
 ghost use Rattle.octets.specs.Octets.{put};
 ghost use Rattle.machine.specs.Limits.{most_cells};
 ghost use Rattle.machine.specs.Counting.{occurs};
@@ -11,7 +10,7 @@ ghost use Rattle.machine.specs.Pieces.{joined};
 ghost use Rattle.machine_writes.specs.Links.{Links};
 ghost use Rattle.pieces.specs.InPlace.{piece_state, spot_from, LinkIn};
 
-use octets::{copy_in, get16, small, wide};
+use octets::{copy_in, read};
 use rows::cell::{Cell, STEPS, cell_at};
 use rows::head::Head;
 
@@ -23,18 +22,16 @@ pub fn spot(store: &[u8], link: usize, index: u64) -> usize
         (result ≡ spot_from b (suc most_cells) link index) × LinkIn b result }
 {
     let mut here = link;
-    let mut n: usize = 0;
-    while n < STEPS {
-        let place = small(store[here]);
+    for n in 0..STEPS {
+        let place = usize::from(store[here]);
         if place == 0 {
             return here;
         }
         let row = cell_at(place);
-        if index <= wide(store[row + Cell::INDEX]) {
+        if index <= u64::from(store[row + Cell::INDEX]) {
             return here;
         }
         here = row;
-        n += 1;
     }
     here
 }
@@ -48,7 +45,7 @@ fn copy_piece(store: &[u8], place: usize, out: &mut [u8], at: usize) -> usize
         (result ≡ at + length bytes) × (out.new ≡ put out.old at bytes) }
 {
     let row = cell_at(place);
-    let size = get16(store, row + Cell::SIZE) as usize;
+    let size = read::<2>(store, row + Cell::SIZE) as usize;
     let start = row + Cell::PIECE;
     let end = start + size;
     copy_in(out, at, &store[start..end]);
@@ -64,24 +61,15 @@ pub fn join(store: &[u8], first: usize, out: &mut [u8]) -> usize
 {
     let mut place = first;
     let mut at: usize = 0;
-    let mut n: usize = 0;
-    while n < STEPS {
+    for n in 0..STEPS {
         if place == 0 {
             return at;
         }
         at = copy_piece(store, place, out, at);
         let row = cell_at(place);
-        place = small(store[row]);
-        n += 1;
+        place = usize::from(store[row]);
     }
     at
-}
-
-// 1 where the two bytes are equal, else 0.
-fn same(x: u8, y: u8) -> u64
-    ensures { (result ≡ one (eqb x y)) × (result ≤ 1) }
-{
-    if x == y { 1 } else { 0 }
 }
 
 // How many of the pieces from the cell `first` on have a state.
@@ -91,15 +79,13 @@ pub fn count(store: &[u8], first: usize, state: u8) -> u64
 {
     let mut place = first;
     let mut found: u64 = 0;
-    let mut n: usize = 0;
-    while n < STEPS {
+    for n in 0..STEPS {
         if place == 0 {
             return found;
         }
         let row = cell_at(place);
-        found = found + same(state, store[row + Cell::STATE]);
-        place = small(store[row]);
-        n += 1;
+        found += u64::from(state == store[row + Cell::STATE]);
+        place = usize::from(store[row]);
     }
     found
 }
@@ -111,15 +97,13 @@ pub fn cells(store: &[u8], first: usize) -> u64
 {
     let mut place = first;
     let mut found: u64 = 0;
-    let mut n: usize = 0;
-    while n < STEPS {
+    for n in 0..STEPS {
         if place == 0 {
             return found;
         }
         let row = cell_at(place);
-        place = small(store[row]);
+        place = usize::from(store[row]);
         found += 1;
-        n += 1;
     }
     found
 }
@@ -131,15 +115,13 @@ pub fn total(store: &[u8], first: usize) -> u64
 {
     let mut place = first;
     let mut sum: u64 = 0;
-    let mut n: usize = 0;
-    while n < STEPS {
+    for n in 0..STEPS {
         if place == 0 {
             return sum;
         }
         let row = cell_at(place);
-        sum = sum + get16(store, row + Cell::SIZE);
-        place = small(store[row]);
-        n += 1;
+        sum += read::<2>(store, row + Cell::SIZE);
+        place = usize::from(store[row]);
     }
     sum
 }
@@ -150,5 +132,5 @@ pub fn count_free(store: &[u8]) -> u64
     ensures { let b = store.now in
         (result ≡ length (cell_chain b (get_or b free_cells_at 0))) × (result ≤ suc most_cells) }
 {
-    cells(store, small(store[Head::FREE_CELLS]))
+    cells(store, usize::from(store[Head::FREE_CELLS]))
 }

@@ -1,5 +1,5 @@
 -- Dropping a held record and taking the oldest whole one, from bytes to stores. Assumes nothing.
-use Rattle.std.specs.Prelude.{ℕ, ◌+◌, ◌-◌, ◌≤◌, ◌<◌, ◌≡◌, refl, length, get_or}
+use Rattle.std.specs.Prelude.{ℕ, ◌+◌, ◌≤◌, ◌<◌, ◌≡◌, refl, length, get_or}
 use Rattle.std.proofs.Common.{arith, zero-add, ap, ◌∙◌, subst}
 use Rattle.std.proofs.Math.Path.{sym}
 use mathlib.Core.List.{List, [], ◌∷◌, ◌++◌, map}
@@ -15,7 +15,7 @@ use Rattle.machine.specs.Chains.{first, link, chain_rows}
 use Rattle.machine.specs.Counting.{occurs}
 use Rattle.machine.specs.Layout.{free_at, held_at, whole_at, free_cells_at, first_cell_at, rec_off, rec_place, cell_place}
 use Rattle.machine.specs.Layout.{free_row, rec_row, head_row, rec_at, cell_at, encode, decode}
-use Rattle.machine.specs.Sound.{piece_places, sound}
+use Rattle.machine.specs.Sound.{piece_places}
 use Rattle.machine.specs.Valid.{RecSized, Valid}
 use Rattle.machine.specs.Receive.{rec_key, found, dropped, drop_at, drop_step, take_from, take_step}
 use Rattle.machine_laws.specs.Counting.{Few, self, one_inside}

@@ -1,5 +1,5 @@
 -- The pieces of a held record are a chain, and no place in it stands twice. Assumes nothing.
-use Rattle.std.specs.Prelude.{ℕ, suc, ◌+◌, ◌≤◌, ◌≡◌, List, ◌∷◌, ◌++◌, map}
+use Rattle.std.specs.Prelude.{ℕ, suc, ◌≤◌, ◌≡◌, List, ◌∷◌, ◌++◌, map}
 use Rattle.std.proofs.Common.{arith, sym, ap, ◌∙◌, subst, append_assoc}
 use Rattle.std.proofs.Math.Option.{some}
 use Rattle.octets.specs.ListsLaws.{all_left}

@@ -1,6 +1,13 @@
 -- Rows of refusals, test by test, as the code decides them; and what a step leaves where its row answers a number. Assumes nothing.
 use Rattle.std.specs.Prelude.{ℕ, ◌≡◌, refl, Bool, true, false, List, [], ◌∷◌, ◌++◌, ltb}
+use Rattle.std.specs.Prelude.{Result}
+use Rattle.std.specs.Result.{IsErrAnd}
 use Rattle.std.proofs.Common.{arith, ap, ne_eqb, ltb-true}
+use Rattle.std.proofs.lemmas.Result.{err_from_is_err_and}
+use Rattle.answer.specs.declared.Refusal.{Refusal}
+use Rattle.answer.specs.Answers.{number}
+use Rattle.answer.specs.Results.{answered}
+use Rattle.answer.specs.AnswersLaws.{some_number}
 use Rattle.octets.specs.BoolsLaws.{cases, split}
 use Rattle.machine.specs.Values.{Store}
 use Rattle.machine.specs.Layout.{encode}
@@ -45,3 +52,10 @@ refused n s b m e h = rw (← e) (rw (ne_eqb n 0 h))
 
 pub done : (s : Store) (b c : List ℕ) (m : ℕ) → 0 ≡ m → c ≡ encode s → record { number = 0; store = c } ≡ stepped m s b
 done s b c m e h = rw (← e) (ap (λ (x : List ℕ). record { number = 0; store = x }) h)
+
+-- .. also where `?` hands it up
+pub refused_up : (e : Refusal) (r : Result (Unit {0}) Refusal) (s : Store) (b : List ℕ) (m : ℕ) → IsErrAnd r (λ x. x ≡ e) → number e ≡ m
+    → record { number = answered r; store = b } ≡ stepped m s b
+refused_up e r s b m h f =
+    let p = err_from_is_err_and r h in
+    rw (p.1, p.2) (refused (number e) s b m f (λ z. omega (arith, z, some_number e)))

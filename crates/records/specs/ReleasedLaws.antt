@@ -1,5 +1,5 @@
 -- Dropping a record: links of cells stay in range on the way, and what is written is what dropping and taking do to the store. Assumes nothing.
-use Rattle.std.specs.Prelude.{ℕ, ◌+◌, ◌-◌, ◌≤◌, ◌<◌, ◌≡◌, List, [], ◌∷◌, length, get_or}
+use Rattle.std.specs.Prelude.{ℕ, ◌+◌, ◌≤◌, ◌<◌, ◌≡◌, List, [], ◌∷◌, length, get_or}
 use Rattle.std.proofs.Common.{arith, ◌∙◌}
 use Rattle.octets.specs.Octets.{put}
 use Rattle.octets.specs.PartsLaws.{get_or-put-before, get_or-put-after, length-put}

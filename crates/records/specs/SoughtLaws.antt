@@ -1,5 +1,5 @@
 -- What `seek` finds in the bytes of a valid store: the link behind the records that have another key. Assumes nothing.
-use Prim.Native.Nat.{ℕ, zero, suc, ◌+◌, ◌-◌, ◌≤◌, ◌<◌}
+use Prim.Native.Nat.{ℕ, zero, suc, ◌-◌, ◌≤◌, ◌<◌}
 use Rattle.std.proofs.Common.{arith, sym, ◌∙◌, subst, length-append, eq-eqb, ne_eqb}
 use Rattle.std.specs.Prelude.{◌≡◌, refl, true, false, length, get_or, eqb}
 use Rattle.std.proofs.Math.Path.{ap}

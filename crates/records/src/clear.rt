@@ -30,7 +30,7 @@ fn free_cell(store: &mut [u8], place: usize, end: u8) -> usize
     let link = [or_else(end, next)];
     octets::copy_in(store, row, &link);
     octets::fill(store, row + 1, cell::BYTES - 1, 0);
-    octets::small(next)
+    usize::from(next)
 }
 
 // The cells from the place `first` on are freed; the last one leads to the place `end`.
@@ -39,13 +39,11 @@ fn free_cells(store: &mut [u8], first: usize, end: u8)
     ensures { store.new ≡ free_from end (suc most_cells) first store.old }
 {
     let mut place = first;
-    let mut n: usize = 0;
-    while n < cell::STEPS {
+    for n in 0..cell::STEPS {
         if place == 0 {
             return;
         }
         place = free_cell(store, place, end);
-        n += 1;
     }
 }
 

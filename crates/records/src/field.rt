@@ -23,7 +23,7 @@ fn number(store: &[u8], link: usize, o: usize) -> u64
     requires { Reached store.now link × (o + number_width ≤ rec_bytes) }
     ensures { result ≡ num_at number_width (row_in store.now link) o }
 {
-    octets::get64(store, place::row_at(store, link) + o)
+    octets::read::<8>(store, place::row_at(store, link) + o)
 }
 
 // The n bytes at o of the record's row, as that part of the store.
@@ -48,7 +48,7 @@ pub fn slots(store: &[u8], link: usize) -> u64
     requires { Reached store.now link }
     ensures { (result ≡ get_or (row_in store.now link) slots_at 0) × (result < 256) }
 {
-    octets::wide(byte(store, link, Record::SLOTS))
+    u64::from(byte(store, link, Record::SLOTS))
 }
 
 // Whether it is a reply.
@@ -120,7 +120,7 @@ pub fn topic(store: &[u8], link: usize) -> &[u8]
     requires { Reached store.now link }
     ensures { result.now ≡ (label_of (row_in store.now link)).topic }
 {
-    let size = octets::small(byte(store, link, Record::TOPIC_LENGTH));
+    let size = usize::from(byte(store, link, Record::TOPIC_LENGTH));
     bytes(store, link, Record::TOPIC, size)
 }
 
@@ -138,5 +138,5 @@ pub fn first_cell(store: &[u8], link: usize) -> usize
     requires { Reached store.now link }
     ensures { result ≡ get_or (row_in store.now link) first_cell_at 0 }
 {
-    octets::small(byte(store, link, Record::FIRST_CELL))
+    usize::from(byte(store, link, Record::FIRST_CELL))
 }

@@ -18,9 +18,8 @@ pub fn find(store: &[u8], link: usize, id: &[u8]) -> usize
     ensures { result ≡ seek id.now store.now link }
 {
     let mut here = link;
-    let mut n: usize = 0;
-    while n < record::STEPS {
-        let place = octets::small(store[here]);
+    for n in 0..record::STEPS {
+        let place = usize::from(store[here]);
         if place == 0 {
             return here;
         }
@@ -31,7 +30,6 @@ pub fn find(store: &[u8], link: usize, id: &[u8]) -> usize
             return here;
         }
         here = row;
-        n += 1;
     }
     here
 }

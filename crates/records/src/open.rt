@@ -3,7 +3,6 @@
 ghost use Rattle.std.specs.Prelude.{◌≡◌, ◌+◌, ◌≤◌, length};
 ghost use Rattle.std.proofs.Math.Option.{none};
 ghost use Rattle.octets.specs.Octets.{put};
-ghost use Rattle.octets.specs.Bools.{one};
 ghost use Rattle.machine.specs.Limits.{longest, largest_topic, rec_bytes, slots_of};
 ghost use Rattle.machine.specs.Codes.{kind_leaving};
 ghost use Rattle.machine.specs.Layout.{total_at, encode, decode};
@@ -29,13 +28,6 @@ pub fn hold(store: &mut [u8])
     octets::copy_in(store, Head::FREE, &heads);
 }
 
-// A mark as a byte.
-pub fn mark(x: bool) -> u8
-    ensures { result ≡ one x }
-{
-    if x { 1 } else { 0 }
-}
-
 // The slots of a message of that length.
 fn slots(total: u64) -> u8
     requires { total ≤ longest }
@@ -55,7 +47,7 @@ fn put_front(store: &mut [u8], row: usize, kind: u8, cell: u8, label: Label, top
     let destination = label.destination;
     let front = [
         kind,
-        mark(label.reply),
+        u8::from(label.reply),
         0,
         0,
         cell,
@@ -74,9 +66,9 @@ fn put_rest(store: &mut [u8], row: usize, total: u64, created: u64, end: u64, to
     ensures { store.new ≡ put store.old (row + total_at) (rest_of total created end topic.now) }
 {
     let size = topic.len();
-    octets::put64(store, row + Record::LENGTH, total);
-    octets::put64(store, row + Record::CREATED, created);
-    octets::put64(store, row + Record::END, end);
+    octets::write::<8>(store, row + Record::LENGTH, total);
+    octets::write::<8>(store, row + Record::CREATED, created);
+    octets::write::<8>(store, row + Record::END, end);
     octets::copy_in(store, row + Record::TOPIC, topic);
     octets::fill(
         store,

@@ -18,5 +18,5 @@ pub fn row_at(store: &[u8], link: usize) -> usize
     ensures { let b = store.now in
         (result ≡ rec_off (place_at b link)) × (result + rec_bytes ≤ length b) }
 {
-    rows::record::record_at(octets::small(store[link]))
+    rows::record::record_at(usize::from(store[link]))
 }

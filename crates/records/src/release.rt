@@ -40,10 +40,10 @@ fn unlink(store: &mut [u8], link: usize)
     requires { Droppable link store.old }
     ensures { store.new ≡ unlinked link store.old }
 {
-    let place = octets::small(store[link]);
+    let place = usize::from(store[link]);
     let row = record::record_at(place);
     let next = [store[row]];
-    let first = octets::small(store[row + Record::FIRST_CELL]);
+    let first = usize::from(store[row + Record::FIRST_CELL]);
     octets::copy_in(store, link, &next);
     release(store, place, first);
 }

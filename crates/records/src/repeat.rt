@@ -7,7 +7,7 @@ ghost use Rattle.machine.specs.Valid.{LabelSized};
 ghost use Rattle.records.specs.HeldAt.{row_in, Reached};
 ghost use Rattle.records.specs.Opening.{new_label};
 
-use crate::{field, open};
+use crate::field;
 use packet::label::Label;
 
 // Whether an init says what the record holds that the link at byte `link` leads to.
@@ -22,6 +22,6 @@ pub fn says_again(store: &[u8], link: usize, label: Label, topic: &[u8]) -> bool
     let to = octets::equal(field::destination(store, link), &destination);
     let long = field::total(store, link) == label.total;
     let about = octets::equal(field::topic(store, link), topic);
-    let reply = field::reply(store, link) == open::mark(label.reply);
+    let reply = field::reply(store, link) == u8::from(label.reply);
     from & to & long & about & reply
 }

@@ -26,5 +26,5 @@ pub fn restart(store: &mut [u8], at: usize, label: Label, topic: &[u8])
     let first = store[row + Record::FIRST_CELL];
     let times = Times { created: 0, end: 0 };
     open::put_row(store, row, place::ARRIVING, 0, label, topic, times);
-    clear::clear(store, octets::small(first));
+    clear::clear(store, usize::from(first));
 }

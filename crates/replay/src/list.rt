@@ -140,7 +140,7 @@ pub(crate) fn play(
     let mut s = State {
         rules: text.len(),
         known: text.len(),
-        call: told::made(start, kind::OTHER, answer::sent(0, 0)),
+        call: told::made(start, kind::OTHER, make::DONE),
     };
     let mut at = start;
     while at < text.len() {

@@ -5,6 +5,14 @@ use crate::{key, kind, room, text, value};
 use answer::Answer;
 use calendar::ALWAYS;
 
+// The answer of a call that gives nothing.
+pub(crate) const DONE: Answer = Answer {
+    number: 0,
+    run: 0,
+    wake: 0,
+    pieces: 0,
+};
+
 // What a line makes: the library's answer, or nothing where it is not of the form.
 #[derive(Clone, Copy)]
 pub(crate) enum Made {
@@ -38,7 +46,7 @@ fn push_to(
     };
     let topic = text::part(&topic, 0, t as usize);
     let bytes = text::part(&bytes, 0, n as usize);
-    Made::Of(message::push(send, id, reply, me, to, topic, bytes, created, try_ms, run))
+    Made::Of(message::push(send, id, reply, me, to, topic, bytes, created, try_ms, run).into())
 }
 
 // `push ID REPLY TO TOPIC DATA CREATED TRY`, from the node's address.
@@ -86,7 +94,7 @@ fn arrive(
     };
     let known = key::mark(known_line, recv, text::part(frame, 0, 8));
     let rules = text::part(&out, 0, n as usize);
-    Made::Of(message::packet(recv, send, frame, from, to, rules, known, run))
+    Made::Of(message::packet(recv, send, frame, from, to, rules, known, run).into())
 }
 
 // `packet FROM TO BYTES`.
@@ -131,7 +139,7 @@ fn wake(line: &[u8], send: &mut [u8], run: &mut [u8]) -> Made {
     let Value::Is(clock) = value::number(line, 3) else {
         return Made::Bad;
     };
-    Made::Of(message::wake(send, kind, &id, clock, &ALWAYS, 0, run))
+    Made::Of(message::wake(send, kind, &id, clock, &ALWAYS, 0, run).into())
 }
 
 // `report ID`.
@@ -143,7 +151,7 @@ fn report(line: &[u8], send: &[u8], out: &mut [u8]) -> Made {
     if !value::name(line, 1, &mut id) {
         return Made::Bad;
     }
-    Made::Of(message::report(send, &id, out))
+    Made::Of(message::report(send, &id, out).into())
 }
 
 // `take`.
@@ -151,7 +159,7 @@ fn take(line: &[u8], recv: &mut [u8], out: &mut [u8], run: &mut [u8]) -> Made {
     if text::rest(line) != 0 {
         return Made::Bad;
     }
-    Made::Of(message::take(recv, out, run))
+    Made::Of(message::take(recv, out, run).into())
 }
 
 // `rules BYTES`, which calls nothing.
@@ -163,7 +171,7 @@ fn rules(line: &[u8]) -> Made {
     let Value::Is(_) = book(line, &mut out) else {
         return Made::Bad;
     };
-    Made::Of(answer::sent(0, 0))
+    Made::Of(DONE)
 }
 
 // `known ADDRESS ..`, which calls nothing.
@@ -171,7 +179,7 @@ fn known(line: &[u8]) -> Made {
     if !key::addresses(line) {
         return Made::Bad;
     }
-    Made::Of(answer::sent(0, 0))
+    Made::Of(DONE)
 }
 
 // The call of a line of that kind. What it puts out goes into `run`, what it shows into `out`.

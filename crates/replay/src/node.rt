@@ -7,6 +7,7 @@ use crate::list::Outcome;
 use crate::told::Why;
 use crate::value::Value;
 use crate::{kind, list, room, text, value};
+use answer::Answer;
 use rows::{cell, head};
 
 // Where the first line starts that says anything, or the end of the text.
@@ -51,7 +52,7 @@ fn address(line: &[u8], me: &mut [u8; 16]) -> u64 {
     if !value::name(line, 1, &mut key) {
         return 1;
     }
-    if address::address(&key, me) != 0 {
+    if address::address(&key, me).is_err() {
         return 1;
     }
     if !value::is_bytes(line, 2, me, 0, 16) {
@@ -71,11 +72,11 @@ fn play(
 ) -> Outcome
     requires { at < length text.now }
 {
-    let made = message::setup(recv, head::RECEIVE);
+    let made = Answer::from(message::setup(recv, head::RECEIVE));
     if made.number != 0 {
         return Outcome::Differs(at, Why::Number(made.number));
     }
-    let made = message::setup(send, head::SEND);
+    let made = Answer::from(message::setup(send, head::SEND));
     if made.number != 0 {
         return Outcome::Differs(at, Why::Number(made.number));
     }

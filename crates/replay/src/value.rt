@@ -58,7 +58,7 @@ fn decimal(word: &[u8]) -> Value {
         if d > 9 {
             return Value::Bad;
         }
-        let v = octets::wide(d);
+        let v = u64::from(d);
         if n > (MOST - v) / 10 {
             return Value::Bad;
         }
@@ -167,7 +167,7 @@ pub(crate) fn flag(line: &[u8], k: usize) -> Value {
 pub(crate) fn joined(s: &[u8]) -> u64 {
     let mut n: u64 = 0;
     for i in 0..s.len() {
-        n = (n << 8) | octets::wide(s[i]);
+        n = (n << 8) | u64::from(s[i]);
     }
     n
 }

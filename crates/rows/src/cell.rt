@@ -58,7 +58,7 @@ pub fn size(row: &[u8]) -> usize
     requires { length row.now ≡ cell_bytes }
     ensures { (result ≡ num_at size_width row.now size_at) × (result < 65536) }
 {
-    octets::get16(row, Cell::SIZE) as usize
+    octets::read::<2>(row, Cell::SIZE) as usize
 }
 
 // Whether stamp and state are in range, and zero where there is no sender.
@@ -66,7 +66,7 @@ pub fn sending_fits(row: &[u8], role: u64) -> bool
     requires { length row.now ≡ cell_bytes }
     ensures { result ≡ cell_fits role (cell_of 0 row.now) }
 {
-    let stamp = octets::get64(row, Cell::STAMP);
+    let stamp = octets::read::<8>(row, Cell::STAMP);
     let state = row[Cell::STATE];
     if role == crate::head::RECEIVE {
         return (stamp == 0) & (state == 0);

@@ -50,7 +50,7 @@ pub fn fits(store: &[u8], role: u64) -> bool
     if store.len() < Head::BYTES {
         return false;
     }
-    let cells = octets::small(store[Head::CELLS]);
+    let cells = usize::from(store[Head::CELLS]);
     if cells == 0 {
         return false;
     }
@@ -60,7 +60,7 @@ pub fn fits(store: &[u8], role: u64) -> bool
     let rest = octets::zero_part(store, Head::REST, Head::BYTES - Head::REST);
     (store.len() == crate::cell::FIRST + crate::cell::BYTES * cells)
         & is_role(role)
-        & (octets::wide(store[Head::ROLE]) == role)
+        & (u64::from(store[Head::ROLE]) == role)
         & (store[Head::FORM] == FORM)
         & rest
 }

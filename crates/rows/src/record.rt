@@ -94,8 +94,8 @@ pub fn sending_fits(row: &[u8], role: u64) -> bool
     let state = row[Record::STATE];
     let timed = row[Record::TIMED_OUT];
     if role == crate::head::RECEIVE {
-        let created = octets::get64(row, Record::CREATED);
-        let end = octets::get64(row, Record::END);
+        let created = octets::read::<8>(row, Record::CREATED);
+        let end = octets::read::<8>(row, Record::END);
         return (state == 0) & (timed == 0) & (created == 0) & (end == 0);
     }
     (state <= ABORTED) & (timed <= 1)
@@ -126,13 +126,13 @@ pub fn fits(row: &[u8], role: u64, kind: u64) -> bool
     requires { length row.now ≡ rec_bytes }
     ensures { result ≡ record_fits role kind row.now }
 {
-    let length = octets::get64(row, Record::LENGTH);
+    let length = octets::read::<8>(row, Record::LENGTH);
     if length > crate::message::LONGEST {
         return false;
     }
-    let past = Record::TOPIC + octets::small(row[Record::TOPIC_LENGTH]);
+    let past = Record::TOPIC + usize::from(row[Record::TOPIC_LENGTH]);
     let rest = ends(row, past);
     let sending = sending_fits(row, role);
-    let slots = crate::message::slots_fit(length, octets::wide(row[Record::SLOTS]));
-    (octets::wide(row[Record::KIND]) == kind) & rest & (row[Record::REPLY] <= 1) & sending & slots
+    let slots = crate::message::slots_fit(length, u64::from(row[Record::SLOTS]));
+    (u64::from(row[Record::KIND]) == kind) & rest & (row[Record::REPLY] <= 1) & sending & slots
 }

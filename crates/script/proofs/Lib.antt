@@ -1,3 +1,2 @@
 mod Lines
-mod Scripts
-mod Alone
+mod Writes

@@ -1,6 +1,6 @@
 -- What is written in decimal is a decimal number, and is read back as the same number. Assumes nothing.
-use Rattle.std.specs.Prelude.{ℕ, zero, suc, ◌+◌, ◌-◌, ◌*◌, ◌/◌, ◌%◌, ◌<◌, ◌≡◌, refl, true, List, [], ◌∷◌, ◌++◌, length, get_or, ltb}
-use Rattle.std.proofs.Common.{arith, length-append, ltb-true, ltb-false, lt-ltb, le-leb, ne_eqb}
+use Rattle.std.specs.Prelude.{ℕ, zero, suc, ◌+◌, ◌-◌, ◌*◌, ◌/◌, ◌%◌, ◌<◌, ◌≤◌, ◌≡◌, refl, true, List, [], ◌∷◌, ◌++◌, length, get_or, ltb}
+use Rattle.std.proofs.Common.{arith, length-append, ltb-true, ltb-false, lt-ltb, le-leb, le-ltb, ne_eqb, ap, sym, ◌∙◌}
 use Rattle.octets.specs.BoolsLaws.{cases, split, both}
 use Rattle.octets.specs.Lists.{all}
 use Rattle.script.specs.Input.{digit_zero, is_digit, value, decimal}
@@ -45,6 +45,11 @@ first-stays : (l m : List ℕ) → 0 < length l → get_or (l ++ m) 0 0 ≡ get_
 first-stays [] m h = absurd (omega arith)
 first-stays (x ∷ l) m h = refl
 
+-- a number of 64 bits
+pub bits-short : (n : ℕ) → n < 18446744073709551616 → n < tens most_digits
+unfolding tens
+bits-short n h = omega arith
+
 -- a number that is not 0 has digits, and the first is not 0
 first-digit : (digits n : ℕ) → 0 < n → n < tens digits → (0 < length (digits_of digits n)) × (digit_zero < get_or (digits_of digits n) 0 0)
 unfolding digits_of tens
@@ -79,3 +84,26 @@ decimal-is n h =
 -- .. of the number
 pub decimal-back : (n : ℕ) → n < tens most_digits → value 0 (decimal_of n) ≡ n
 decimal-back n h = value-digits most_digits n h
+
+-- ---- one digit after the other
+
+-- more digits than it takes change nothing
+digits-steady : (digits n : ℕ) → n < tens (suc digits) → digits_of (suc (suc digits)) n ≡ digits_of (suc digits) n
+unfolding digits_of tens
+digits-steady zero n h = rw (lt-ltb n 10 (omega (arith, h))) refl
+digits-steady (suc digits) n h =
+    cases (ltb n 10)
+    (λ e. rw e refl)
+    (λ e. rw e (ap (λ (l : List ℕ). l ++ ((digit_zero + n % 10) ∷ [])) (digits-steady digits (n / 10) (omega (arith, h)))))
+
+pub decimal-digit : (n : ℕ) → n < 10 → decimal_of n ≡ (digit_zero + n % 10) ∷ []
+unfolding digits_of
+decimal-digit n h = rw (lt-ltb n 10 h) (ap (λ (d : ℕ). (digit_zero + d) ∷ []) (omega arith))
+
+pub decimal-more : (n : ℕ) → 10 ≤ n → n < tens most_digits → decimal_of n ≡ decimal_of (n / 10) ++ ((digit_zero + n % 10) ∷ [])
+unfolding digits_of tens
+decimal-more n g h =
+    rw (le-ltb n 10 g) (ap (λ (l : List ℕ). l ++ ((digit_zero + n % 10) ∷ [])) (sym (digits-steady 18 (n / 10) (omega (arith, h)))))
+
+pub decimal-longer : (n : ℕ) → 10 ≤ n → n < tens most_digits → length (decimal_of n) ≡ length (decimal_of (n / 10)) + 1
+decimal-longer n g h = ap length (decimal-more n g h) ∙ length-append (decimal_of (n / 10)) ((digit_zero + n % 10) ∷ [])

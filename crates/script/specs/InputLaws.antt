@@ -29,7 +29,7 @@ drop-behind (x ∷ l) =
     (let q : suc (length l) - length (behind l) ≡ suc (length l - length (behind l)) = omega (arith, behind-le l) in
     ap (λ (n : ℕ). drop n (x ∷ l)) q ∙ drop-behind l))
 
--- the letters stand where `script_of` says
+-- the letters stand at the start of what is behind the first line
 pub letters-stand : (s : List ℕ) → take (length (letters_of s)) (drop (length s - length (behind s)) s) ≡ letters_of s
 letters-stand s = ap (take (length (letters_of s))) (drop-behind s) ∙ take-line (behind s)
 

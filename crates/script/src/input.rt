@@ -1,172 +1,108 @@
 // Reading inputs: a length and letters, or one number alone.
 
-ghost use Rattle.std.specs.Prelude.{◌≡◌, true, cond, ◌+◌, ◌-◌, ◌≤◌, length, drop, leb};
+ghost use Rattle.std.specs.Prelude.{◌≡◌, true, ◌&&◌, ◌≤◌, suc, leb, option_map, unwrap_or, IfSome};
+ghost use Rattle.std.specs.Bool.{then_some};
 ghost use Rattle.octets.specs.Lists.{all};
 ghost use Rattle.machine.specs.Limits.{longest};
 ghost use Rattle.script.specs.Input.{line, behind, is_digit, is_letter, value, decimal};
 ghost use Rattle.script.specs.Script.{script_of, number_of};
 
+// What an input asks for: the length of a survey, and letters.
 #[derive(Clone, Copy)]
-pub enum Script {
-    // No input: nothing is shown.
-    Refused,
-    // The length, where the letters start and how many there are.
-    Given(usize, usize, usize),
+pub struct Script<'a> {
+    pub length: usize,
+    pub letters: &'a [u8],
 }
 
-const LINE_FEED: u8 = 10;
+const LINE_FEED: u8 = b'\n';
 
-const LONGEST: usize = 32500;
-
-const TOO_LONG: usize = 32501;
+// The longest survey.
+pub const LONGEST: usize = 32500;
 
 const MOST_LETTERS: usize = 2000;
 
-// How long the first line is.
-fn line_length(s: &[u8]) -> usize
-    ensures { (result ≡ length (line s.now)) × (result ≤ length s.now) }
+// The first line, and what is behind it.
+fn cut_line(s: &[u8]) -> (&[u8], &[u8])
+    ensures { (result.0.now ≡ line s.now) × (result.1.now ≡ behind s.now) }
 {
-    let mut i: usize = 0;
-    while i < s.len() {
-        if s[i] == LINE_FEED {
-            return i;
-        }
-        i += 1;
+    match s.iter().position(|&b| b == LINE_FEED) {
+        Some(end) => (&s[..end], &s[end + 1..]),
+        None => (s, &[]),
     }
-    i
-}
-
-// Where the second line starts.
-fn line_end(s: &[u8], first: usize) -> usize
-    requires { (first ≡ length (line s.now)) × (first ≤ length s.now) }
-    ensures { (drop result s.now ≡ behind s.now) × (result ≤ length s.now) }
-{
-    if first < s.len() {
-        return first + 1;
-    }
-    first
-}
-
-fn is_digit(b: u8) -> bool
-    ensures { result ≡ is_digit b }
-{
-    (48 <= b) & (b <= 57)
-}
-
-fn is_letter(b: u8) -> bool
-    ensures { result ≡ is_letter b }
-{
-    (b == b'D') | (b == b'L') | (b == b'R')
 }
 
 fn all_digits(s: &[u8]) -> bool
     ensures { result ≡ all is_digit s.now }
 {
-    let mut i: usize = 0;
-    while i < s.len() {
-        if !is_digit(s[i]) {
-            return false;
+    s.iter().all(|b| b.is_ascii_digit())
+}
+
+// Whether these are a decimal number.
+#[tactic(auto, unfolding(crate::specs::Input::decimal))]
+fn is_decimal(s: &[u8]) -> bool
+    ensures { result ≡ decimal s.now }
+{
+    let [first, rest @ ..] = s else {
+        return false;
+    };
+    (rest.is_empty() || *first != b'0') && all_digits(s)
+}
+
+// The number that digits make, up to the longest survey's length.
+fn number(digits: &[u8]) -> Option<usize>
+    requires { all is_digit digits.now ≡ true }
+    ensures { result ≡ then_some (leb (value 0 digits.now) longest) (value 0 digits.now) }
+{
+    let mut n = 0;
+    for &digit in digits {
+        n = 10 * n + usize::from(digit - b'0');
+        if n > LONGEST {
+            return None;
         }
-        i += 1;
     }
-    true
+    Some(n)
 }
 
 fn all_letters(s: &[u8]) -> bool
     ensures { result ≡ all is_letter s.now }
 {
-    let mut i: usize = 0;
-    while i < s.len() {
-        if !is_letter(s[i]) {
-            return false;
-        }
-        i += 1;
-    }
-    true
+    s.iter().all(|b| matches!(b, b'D' | b'L' | b'R'))
 }
 
-// Whether these are a decimal number.
-fn is_decimal(s: &[u8]) -> bool
-    ensures { result ≡ decimal s.now }
+// The length in a line: a decimal up to the longest survey's.
+#[tactic(auto, using(crate::proofs::Lines::decimal_digits))]
+fn length(line: &[u8]) -> Option<usize>
+    ensures { result ≡ then_some (decimal line.now && leb (value 0 line.now) longest) (value 0 line.now) }
 {
-    if s.len() == 0 {
-        return false;
-    }
-    if s.len() < 2 {
-        return all_digits(s);
-    }
-    if s[0] == b'0' {
-        return false;
-    }
-    all_digits(s)
-}
-
-// The digit's number.
-fn digit(b: u8) -> usize
-    requires { is_digit b ≡ true }
-    ensures { (result ≡ b - 48) × (result ≤ 9) }
-{
-    (b - 48) as usize
-}
-
-// The number that digits make, and 32,501 for any that is more than 32,500.
-fn number(s: &[u8]) -> usize
-    requires { all is_digit s.now ≡ true }
-    ensures { result ≡ cond (leb (value 0 s.now) longest) (value 0 s.now) 32501 }
-{
-    let mut n: usize = 0;
-    let mut i: usize = 0;
-    while i < s.len() {
-        n = 10 * n + digit(s[i]);
-        if n > LONGEST {
-            return TOO_LONG;
-        }
-        i += 1;
-    }
-    n
-}
-
-// Reads an input.
-pub fn parse(input: &[u8]) -> Script
-    ensures { result ≡ script_of input.now }
-{
-    let first = line_length(input);
-    let head = &input[..first];
-    if !is_decimal(head) {
-        return Script::Refused;
-    }
-    let length = number(head);
-    if length > LONGEST {
-        return Script::Refused;
-    }
-    let start = line_end(input, first);
-    let tail = &input[start..];
-    let count = line_length(tail);
-    if count > MOST_LETTERS {
-        return Script::Refused;
-    }
-    if !all_letters(&tail[..count]) {
-        return Script::Refused;
-    }
-    let end = line_end(tail, count);
-    if end < tail.len() {
-        return Script::Refused;
-    }
-    Script::Given(length, start, count)
-}
-
-// The number of an input that is one decimal alone; 32,501 for any that is more than 32,500, and for any
-// other input.
-pub fn one_number(input: &[u8]) -> usize
-    ensures { result ≡ number_of input.now }
-{
-    let first = line_length(input);
-    if line_end(input, first) < input.len() {
-        return TOO_LONG;
-    }
-    let line = &input[..first];
     if !is_decimal(line) {
-        return TOO_LONG;
+        return None;
     }
     number(line)
+}
+
+// Reads an input: none where it is none.
+#[tactic(auto, unfolding(crate::specs::Input::is_input))]
+pub fn parse(input: &[u8]) -> Option<Script<'_>>
+    ensures { option_map (λ s. (s.length, s.letters.now)) result ≡ script_of input.now }
+{
+    let (first, rest) = cut_line(input);
+    let (letters, behind) = cut_line(rest);
+    let length = length(first)?;
+    if letters.len() > MOST_LETTERS || !all_letters(letters) || !behind.is_empty() {
+        return None;
+    }
+    Some(Script { length, letters })
+}
+
+// The number of an input that is one decimal up to 32,500 alone; none for any other input.
+#[tactic(auto, unfolding(crate::specs::Input::is_one_number, crate::specs::Script::number_of))]
+pub fn one_number(input: &[u8]) -> Option<usize>
+    ensures value { unwrap_or result (suc longest) ≡ number_of input.now }
+    ensures most { IfSome result (λ n. n ≤ longest) }
+{
+    let (line, behind) = cut_line(input);
+    if !behind.is_empty() {
+        return None;
+    }
+    length(line)
 }

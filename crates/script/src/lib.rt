@@ -1,7 +1,9 @@
-// Inputs in decimal: that of the classroom link, and one of a number alone.
+// Numbers in decimal: inputs, that of the classroom link and one of a number alone, and what is written.
 
 #![tactic(auto)]
 
+mod decimal;
 mod input;
 
-pub use input::{Script, one_number, parse};
+pub use decimal::put_item;
+pub use input::{LONGEST, Script, one_number, parse};

@@ -22,7 +22,7 @@ pub extern "C" fn socketlemon_setup(store: &mut [u8], role: u64) -> Answer
     ensures { record { answer = result; store = store.new }
         ≡ setup_of store.old role }
 {
-    message::setup(store, role)
+    message::setup(store, role).into()
 }
 
 // A packet that came in; its reply goes into `run`.
@@ -46,7 +46,7 @@ pub extern "C" fn socketlemon_packet(
         ≡ packet_of recv.old send.old frame.now from.now
         to.now rules.now known run.old }
 {
-    message::packet(recv, send, frame, from, to, rules, known, run)
+    message::packet(recv, send, frame, from, to, rules, known, run).into()
 }
 
 // A message to be sent; its init goes into `run`.
@@ -74,6 +74,7 @@ pub extern "C" fn socketlemon_push(
     message::push(
         send, id, reply, from, to, topic, bytes, created, try_ms, run,
     )
+    .into()
 }
 
 // A wake of a message: kind 1 sends what wants sending, within the calendar's hours, kind 2 lets the deadline pass.
@@ -94,7 +95,7 @@ pub extern "C" fn socketlemon_wake(
     }
         ≡ wake_of send.old kind id.now clock calendar.now unix_ms run.old }
 {
-    message::wake(send, kind, id, clock, calendar, unix_ms, run)
+    message::wake(send, kind, id, clock, calendar, unix_ms, run).into()
 }
 
 // The report on a message, into `out`.
@@ -103,7 +104,7 @@ pub extern "C" fn socketlemon_report(send: &[u8], id: &[u8; 8], out: &mut [u8]) 
     ensures { record { answer = result; out = out.new }
         ≡ report_of send.now id.now out.old }
 {
-    message::report(send, id, out)
+    message::report(send, id, out).into()
 }
 
 // The oldest whole message: its record and its data go into `taken`, its read packet into `run`.
@@ -117,7 +118,7 @@ pub extern "C" fn socketlemon_take(recv: &mut [u8], taken: &mut [u8], run: &mut 
     }
         ≡ take_of recv.old taken.old run.old }
 {
-    message::take(recv, taken, run)
+    message::take(recv, taken, run).into()
 }
 
 // The address of a public key of 32 bytes, into `out`.
@@ -125,8 +126,7 @@ pub extern "C" fn socketlemon_take(recv: &mut [u8], taken: &mut [u8], run: &mut 
 pub extern "C" fn socketlemon_address(key: &[u8], out: &mut [u8]) -> Answer
     ensures { record { answer = result; out = out.new } ≡ address_of key.now out.old }
 {
-    let number = address::address(key, out);
-    answer::refuse(number)
+    address::address(key, out).into()
 }
 
 // The keyed hash of the input, which fills `out`.
@@ -135,8 +135,7 @@ pub extern "C" fn socketlemon_keyed_hash(key: &[u8], input: &[u8], out: &mut [u8
     ensures { record { answer = result; out = out.new }
         ≡ keyed_hash_of key.now input.now out.old }
 {
-    let number = sums::keyed_hash(key, input, out);
-    answer::refuse(number)
+    sums::keyed_hash(key, input, out).into()
 }
 
 // The key that a context and key material give, which fills `out`.
@@ -145,8 +144,7 @@ pub extern "C" fn socketlemon_derive_key(context: &[u8], material: &[u8], out: &
     ensures { record { answer = result; out = out.new }
         ≡ derive_key_of context.now material.now out.old }
 {
-    let number = sums::derive_key(context, material, out);
-    answer::refuse(number)
+    sums::derive_key(context, material, out).into()
 }
 
 // The sizes for a message of `total` bytes in `count` pieces, which a fresh receiver keeps and finishes, into `out`.
@@ -154,5 +152,5 @@ pub extern "C" fn socketlemon_derive_key(context: &[u8], material: &[u8], out: &
 pub extern "C" fn socketlemon_plan(total: u64, count: u64, out: &mut [u8]) -> Answer
     ensures { record { answer = result; out = out.new } ≡ plan_of total count out.old }
 {
-    planner::plan(total, count, out)
+    planner::plan(total, count, out).into()
 }

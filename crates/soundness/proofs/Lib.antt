@@ -1,5 +1,7 @@
 pub mod Rises
+pub mod Walks
 pub mod Walking
 pub mod Rests
+pub mod Same
 pub mod Shares
 pub mod Whole

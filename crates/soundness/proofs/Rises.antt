@@ -1,58 +1,31 @@
 -- Free rows written one behind the other, and the bytes of a fresh store. Assumes nothing.
 use Prim.Native.Nat.{ℕ, zero, suc, ◌+◌, ◌*◌, ◌-◌, ◌≤◌, ◌<◌}
 use native.Mathlib.Omega.{arith}
-use native.Mathlib.Decide.{dec_lt, ℕ_discrete}
+use native.Mathlib.Decide.{ℕ_discrete}
 use native.Mathlib.Numerals.{add-one}
-use native.Mathlib.Nat.{le_antisymm, add-zero, mul-le-mul_left}
+use native.Mathlib.Nat.{add-zero}
 use mathlib.Core.Path.{◌≡◌, refl, sym, ap, ◌∙◌}
-use mathlib.Core.Bool.{Bool, true, false, ◌&&◌, and-false}
+use mathlib.Core.Bool.{true}
 use mathlib.Core.List.{List, [], ◌∷◌, ◌++◌, append_assoc, append-nil}
 use lib.ListN.{length}
-use lib.Dec.{eqb, ltb}
-use borrow.Author.Tests.{eq-eqb, ne_eqb, eqb-true, lt-ltb}
+use lib.Dec.{eqb}
+use borrow.Author.Tests.{eq-eqb, ne_eqb, eqb-true}
 use Rattle.octets.specs.Octets.{put}
-use Rattle.octets.specs.BoolsLaws.{cases, split}
+use Rattle.octets.specs.BoolsLaws.{cases}
 use Rattle.octets.specs.PartsLaws.{more, put-nil, put_whole}
 use Rattle.octets.specs.WrittenLaws.{wrote, then}
-use Rattle.answer.specs.Answers.{bare}
-use Rattle.machine.specs.Limits.{head_bytes, rec_count, rec_bytes, cell_bytes, most_cells, store_bytes}
+use Rattle.machine.specs.Limits.{head_bytes, rec_count, rec_bytes, cell_bytes, store_bytes}
 use Rattle.machine.specs.Codes.{role_receive, role_send, is_role}
 use Rattle.machine.specs.Rows.{row_at, table}
 use Rattle.machine.specs.Chains.{first, chain_rows}
-use Rattle.machine.specs.Counting.{inside, rise}
+use Rattle.machine.specs.Counting.{rise}
 use Rattle.machine.specs.Layout.{free_place, free_row, rec_rows, cell_rows, encode}
-use Rattle.machine.specs.Sound.{fresh, room, setup_cells}
-use Rattle.machine.specs.Setup.{setup_of}
-use Rattle.machine_laws.specs.Fresh.{setup-length}
-use Rattle.machine_laws.specs.Counting.{inside_is, is-inside}
+use Rattle.machine.specs.Sound.{fresh}
 use Rattle.machine_laws.specs.Rows.{table_same, table-length}
 use Rattle.machine_laws.specs.FreeRow.{free-length}
+use Rattle.soundness.specs.declared.chain.Table.{Table}
+use Rattle.soundness.specs.Walked.{cell_table}
 use Rattle.soundness.specs.Rising.{free_link, free_table}
-
--- ---- how many cells
-
-module _ (n : ℕ) where
-  abbrev fits : Bool
-  fits = inside most_cells (room n) && eqb (store_bytes (room n)) n
-
-  pub no_cells : (inside most_cells (room n) ≡ true → store_bytes (room n) ≡ n → ⊥) → 0 ≡ setup_cells n
-  no_cells f =
-      cases fits
-      (λ t. let s = split (inside most_cells (room n)) (eqb (store_bytes (room n)) n) t in absurd (f s.0 (eqb-true (store_bytes (room n)) n s.1)))
-      (λ e. rw e)
-
-  pub cells-short : n < store_bytes 0 → 0 ≡ setup_cells n
-  cells-short h = no_cells (λ i e. let w = inside_is most_cells (room n) i in omega arith)
-
-  pub cells-many : most_cells < room n → 0 ≡ setup_cells n
-  cells-many h = no_cells (λ i e. let w = inside_is most_cells (room n) i in omega arith)
-
-  pub cells_are : room n ≤ most_cells → store_bytes (room n) ≡ n → room n ≡ setup_cells n
-  cells_are h q =
-      elim (dec_lt 0 (room n)) [
-        | yes p ↦ rw (is-inside most_cells (room n) p h, eq-eqb (store_bytes (room n)) n q)
-        | no p ↦ (let z : room n ≡ 0 = omega arith in z ∙ no_cells (λ i e. p (inside_is most_cells (room n) i).0))
-      ]
 
 -- ---- rows one behind the other
 
@@ -85,17 +58,8 @@ module _ (size last : ℕ) (p : 1 ≤ size) where
       one-add : (n : ℕ) → 1 + n ≡ suc n
       one-add n = omega arith
 
-pub rows_none : (b : List ℕ) (a size last : ℕ) → b ≡ put b a (free_table size last 0)
-rows_none b a size last = sym (put-nil b a)
-
-pub rows_all : (b l : List ℕ) (a size last i n : ℕ) → i ≤ n → n ≤ i → l ≡ put b a (free_table size last i) → l ≡ put b a (free_table size last n)
-rows_all b l a size last i n h g e = e ∙ ap (λ (k : ℕ). put b a (free_table size last k)) (le_antisymm h g)
-
--- the row at i ends inside
-pub rows_end : (a size i count n : ℕ) → i < count → a + size * count ≤ n → a + size * i + size ≤ n
-rows_end a size i count n h q =
-    let e : size * suc i ≡ size * i + size = omega arith in
-    omega (arith, e, mul-le-mul_left size h)
+pub rows_none : (b : List ℕ) (a : ℕ) → put b a [] ≡ b
+rows_none b a = put-nil b a
 
 -- ---- a fresh store
 
@@ -135,11 +99,13 @@ fresh-is role cells h =
     ++ (recs i ++ rest i)
 
 -- three writes over all bytes
-pub fresh-written : (role cells : ℕ) (b m l o : List ℕ) → 1 ≤ cells → length b ≡ store_bytes cells
+pub fresh_written : (role cells : ℕ) (b m l o : List ℕ) (t : Table) → 1 ≤ cells → length b ≡ store_bytes cells
     → m ≡ put b 0 (fresh_head role cells)
-    → l ≡ put m head_bytes (free_table rec_bytes rec_count rec_count) → o ≡ put l (store_bytes 0) (free_table cell_bytes cells cells) → o
-    ≡ encode (fresh role cells)
-fresh-written role cells b m l o h e p q r =
+    → l ≡ put m head_bytes (free_table rec_bytes rec_count rec_count)
+    → t ≡ cell_table cells → o ≡ put l t.start (free_table t.size t.count t.count) → o ≡ encode (fresh role cells)
+fresh_written role cells b m l o t h e p q f s =
+    let r : o ≡ put l (store_bytes 0) (free_table cell_bytes cells cells) =
+    s ∙ ap (λ (u : Table). put l u.start (free_table u.size u.count u.count)) f in
     let recs : length (free_table rec_bytes rec_count rec_count)
     ≡ rec_bytes * rec_count = omega (arith, table-size rec_bytes rec_count (omega arith) 0 rec_count) in
     let rest : length (free_table cell_bytes cells cells) ≡ cell_bytes * cells = omega (arith, table-size cell_bytes cells (omega arith) 0 cells) in
@@ -149,29 +115,8 @@ fresh-written role cells b m l o h e p q r =
     w.is ∙ put_whole b ((fresh_head role cells ++ free_table rec_bytes rec_count rec_count) ++ free_table cell_bytes cells cells) (w.size ∙ sym e)
     ∙ append_assoc (fresh_head role cells) (free_table rec_bytes rec_count rec_count) (free_table cell_bytes cells cells) ∙ fresh-is role cells h
 
-pub role-small : (role : ℕ) → is_role role ≡ true → role ≤ 2
-role-small role h =
+pub role_small : (role : ℕ) → is_role role ≡ true → role ≤ 2
+role_small role h =
     cases (eqb role role_receive)
     (λ e. omega (arith, eqb-true role role_receive e))
     (λ e. let q : eqb role role_send ≡ true = rw e at h in omega (arith, eqb-true role role_send q))
-
--- ---- what setup leaves
-
-module _ (b : List ℕ) (role c : ℕ) (e : c ≡ setup_cells (length b)) where
-  -- a length or a role that is not allowed
-  pub setup-short : c ≡ 0 → record { answer = bare 25; store = b } ≡ setup_of b role
-  unfolding setup_of
-  setup-short z = rw (← e, z)
-
-  pub setup-other : is_role role ≡ false → record { answer = bare 25; store = b } ≡ setup_of b role
-  unfolding setup_of
-  setup-other z = rw (z, and-false (ltb 0 (setup_cells (length b))))
-
-  pub setup-done : (l : List ℕ) → (c ≡ 0 → ⊥) → is_role role ≡ true → l ≡ encode (fresh role c)
-      → record { answer = bare 0; store = l } ≡ setup_of b role
-  unfolding setup_of
-  setup-done l n z q = rw (← e, lt-ltb 0 c (omega (arith, n)), z, q)
-
-  -- the store is as long as its cells ask
-  pub setup-long : (c ≡ 0 → ⊥) → length b ≡ store_bytes c
-  setup-long n = sym (ap store_bytes e ∙ (setup-length (length b) (omega (arith, n, e))).0)

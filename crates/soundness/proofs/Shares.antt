@@ -1,122 +1,23 @@
 -- The cells of sources: two sources compared as numbers, the turns of the loops over them, and that what these find is `fair`. Assumes nothing.
-use Prim.Native.Nat.{ℕ, suc, ◌+◌, ◌≤◌, ◌<◌}
+use Prim.Native.Nat.{ℕ, suc, ◌+◌, ◌<◌}
 use native.Mathlib.Omega.{arith}
 use native.Mathlib.Decide.{ℕ_discrete}
 use native.Mathlib.Nat.{add-zero}
 use mathlib.Core.Path.{◌≡◌, refl, sym, ap, ◌∙◌, subst}
-use mathlib.Core.Bool.{Bool, true, false, cond, ◌&&◌, and_assoc}
+use mathlib.Core.Bool.{true, cond, ◌&&◌, and_assoc}
 use mathlib.Core.List.{List, [], ◌∷◌, ◌++◌, map}
 use lib.ListN.{length, get_or, set, length-set, length-map}
 use lib.Seq.{get_or-set_same, get_or-set_other}
-use lib.Dec.{eqb, leb}
-use borrow.Author.Tests.{eqb-true, eq-eqb, le-leb, lt-leb}
-use Rattle.octets.specs.Octets.{part, be, num, same, Bytes}
-use Rattle.octets.specs.BoolsLaws.{split, both, iff}
+use lib.Dec.{leb}
+use Rattle.octets.specs.Octets.{same}
+use Rattle.octets.specs.BoolsLaws.{split}
 use Rattle.octets.specs.Lists.{all, All}
-use Rattle.octets.specs.CompareLaws.{same-eq, same_refl}
-use Rattle.octets.specs.PartsLaws.{part-add, part-part}
-use Rattle.octets.specs.NumbersLaws.{be-part}
-use Rattle.machine.specs.Limits.{rec_count, rec_bytes}
+use Rattle.machine.specs.Limits.{rec_count}
 use Rattle.machine.specs.Counting.{inside, total}
 use Rattle.machine.specs.Sources.{cells_from, held_by, fair}
-use Rattle.machine.specs.Chains.{link}
-use Rattle.machine.specs.Layout.{source_at, address_width, number_width, rec_off, rec_at, rec_of, read_cell, read_rec}
+use Rattle.machine.specs.Layout.{rec_of, read_cell, read_rec}
 use Rattle.machine_laws.specs.Counting.{inside_is, total-append}
 use Rattle.soundness.specs.Walked.{pieces_at, counted, no_counts, source_of, share_at, fair_on}
-use Rattle.soundness.proofs.Rests.{onward, Way, goes}
-
--- ---- two sources
-
-module _ (b : List ℕ) (y : Bytes b) (o p : ℕ) (h : o + address_width ≤ length b) (g : p + address_width ≤ length b) where
-  abbrev half : ℕ → ℕ
-  half k = num number_width (part b k number_width)
-
-  -- the bytes of a half are those of its number
-  half_is : (k l : ℕ) → k + number_width ≤ length b → l + number_width ≤ length b → half k ≡ half l → part b k number_width ≡ part b l number_width
-  half_is k l i j e = sym (be-part b k number_width i y) ∙ ap (be number_width) e ∙ be-part b l number_width j y
-
-  halves : (k : ℕ) → part b k address_width ≡ part b k number_width ++ part b (k + number_width) number_width
-  halves k = part-add b k number_width number_width
-
-  front : (k : ℕ) → part (part b k address_width) 0 number_width ≡ part b k number_width
-  front k = part-part b k address_width 0 number_width (omega arith) ∙ ap (λ (n : ℕ). part b n number_width) (add-zero k)
-
-  back : (k : ℕ) → part (part b k address_width) number_width number_width ≡ part b (k + number_width) number_width
-  back k = part-part b k address_width number_width number_width (omega arith)
-
-  -- two addresses are the same where the numbers of their halves are
-  numbers-same : (eqb (half o) (half p) && eqb (half (o + number_width)) (half (p + number_width))) ≡ same (part b o address_width) (part b p address_width)
-  numbers-same = iff _ (same (part b o address_width) (part b p address_width)) to from
-    where
-      to : (eqb (half o) (half p) && eqb (half (o + number_width)) (half (p + number_width))) ≡ true
-          → same (part b o address_width) (part b p address_width) ≡ true
-      to t =
-          let s = split (eqb (half o) (half p)) (eqb (half (o + number_width)) (half (p + number_width))) t in
-          let e = half_is o p (omega arith) (omega arith) (eqb-true (half o) (half p) s.0) in
-          let f = half_is (o + number_width) (p + number_width) (omega arith) (omega arith)
-          (eqb-true (half (o + number_width)) (half (p + number_width)) s.1) in
-          rw (halves o ∙ (λ i. e i ++ f i) ∙ sym (halves p)) (same_refl (part b p address_width))
-
-      from : same (part b o address_width) (part b p address_width) ≡ true
-          → (eqb (half o) (half p) && eqb (half (o + number_width)) (half (p + number_width))) ≡ true
-      from t =
-          let q = same-eq (part b o address_width) (part b p address_width) t in
-          both _ _
-          (eq-eqb (half o) (half p) (ap (num number_width) (sym (front o) ∙ ap (λ (l : List ℕ). part l 0 number_width) q ∙ front p)))
-          (eq-eqb (half (o + number_width)) (half (p + number_width))
-          (ap (num number_width) (sym (back o) ∙ ap (λ (l : List ℕ). part l number_width number_width) q ∙ back p)))
-
-  -- .. and the addresses are the sources of two records
-  pub sources-told : (x z : ℕ) → o ≡ rec_off x + source_at → p ≡ rec_off z + source_at
-      → (eqb (half o) (half p) && eqb (half (o + number_width)) (half (p + number_width))) ≡ same (source_of b x) (source_of b z)
-  sources-told x z e f = numbers-same ∙ (λ i. same (source_is x o e i) (source_is z p f i))
-    where
-      source_is : (k n : ℕ) → n ≡ rec_off k + source_at → part b n address_width ≡ source_of b k
-      source_is k n q =
-          ap (λ (m : ℕ). part b m address_width) q ∙ sym (part-part b (rec_off k) rec_bytes source_at address_width (omega arith))
-
--- what a record holds for the source of another
-module _ (b m : List ℕ) (p q : ℕ) {one : Bool} (e : one ≡ same (source_of b p) (source_of b q)) where
-  pub share-none : one ≡ false → 0 ≡ share_at b m p q
-  unfolding share_at
-  share-none z = sym (rw (sym e ∙ z))
-
-  pub share-some : one ≡ true → {n : ℕ} → n ≡ get_or m q 0 → n ≡ share_at b m p q
-  unfolding share_at
-  share-some z k = k ∙ sym (rw (sym e ∙ z))
-
--- ---- along a chain of records
-
-pub counted_none : (b m : List ℕ) {l : List ℕ} → l ≡ [] → counted b l m ≡ m
-unfolding counted
-counted_none b m e = ap (λ (ps : List ℕ). counted b ps m) e
-
-pub fair-none : (most : ℕ) (b m o : List ℕ) {l : List ℕ} → l ≡ [] → fair_on most b m l o ≡ true
-unfolding fair_on
-fair-none most b m o e = ap (λ (ps : List ℕ). fair_on most b m ps o) e
-
-module _ {b : List ℕ} {x n : ℕ} (w : Way b x n) (h : n < suc rec_count) (s : x ≡ 0 → ⊥) {y : ℕ} (e : y ≡ link (rec_at b) x) where
-  pub counted-more : (m : List ℕ) {count : ℕ} → count ≡ length (pieces_at b x) → counted b (onward b n x) m ≡ counted b (onward b (n + 1) y) (set m x count)
-  unfolding counted
-  counted-more m q =
-      ap (λ (ps : List ℕ). counted b ps m) (goes w h s e) ∙ ap (λ (k : ℕ). counted b (onward b (n + 1) y) (set m x k)) (sym q)
-
-  pub shares-more : (m : List ℕ) (p sum : ℕ) {more whole : ℕ} → more ≡ share_at b m p x → whole ≡ sum + total (share_at b m p) (onward b n x)
-      → whole ≡ sum + more + total (share_at b m p) (onward b (n + 1) y)
-  shares-more m p sum q r = omega (arith, q, r, ap (total (share_at b m p)) (goes w h s e))
-
-  -- the record's source holds its share at most, or more
-  module _ (most : ℕ) (m o : List ℕ) {own later others : ℕ} (u : own ≡ get_or m x 0) (p : later ≡ total (share_at b m x) (onward b (n + 1) y))
-      (q : others ≡ total (share_at b m x) o) where
-    one-fair : fair_on most b m (onward b n x) o ≡ (leb (own + (later + others)) most && fair_on most b m (onward b (n + 1) y) o)
-    unfolding fair_on
-    one-fair = ap (λ (ps : List ℕ). fair_on most b m ps o) (goes w h s e) ∙ rw (u, p, q)
-
-    pub fair-bad : most < own + (later + others) → fair_on most b m (onward b n x) o ≡ false
-    fair-bad z = one-fair ∙ rw (lt-leb (own + (later + others)) most z)
-
-    pub fair-more : own + (later + others) ≤ most → fair_on most b m (onward b n x) o ≡ fair_on most b m (onward b (n + 1) y) o
-    fair-more z = one-fair ∙ rw (le-leb (own + (later + others)) most z)
 
 -- ---- all records
 

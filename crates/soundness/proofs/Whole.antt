@@ -1,5 +1,5 @@
 -- What the parts of the check find together is whether the bytes are sound. Assumes nothing.
-use Prim.Native.Nat.{ℕ, zero, suc}
+use Prim.Native.Nat.{ℕ, zero, suc, ◌≤◌}
 use native.Mathlib.Omega.{arith}
 use mathlib.Core.Path.{◌≡◌, refl, sym, ap, ◌∙◌, subst}
 use mathlib.Core.Bool.{Bool, true, false, ◌&&◌, ◌||◌, not, and_assoc, and-true, and-false}
@@ -10,7 +10,7 @@ use borrow.Author.Tests.{eqb-true}
 use Rattle.octets.specs.BoolsLaws.{cases, clash, split, both, iff}
 use Rattle.octets.specs.Lists.{all}
 use Rattle.octets.specs.ListsLaws.{all_true, true-all, all-to, all-zip, all_map, map-all, ◌&◌}
-use Rattle.machine.specs.Limits.{rec_count, rec_bytes, cell_bytes, most_cells, most_of_source, store_bytes}
+use Rattle.machine.specs.Limits.{head_bytes, rec_count, rec_bytes, cell_bytes, most_cells, most_of_source, store_bytes}
 use Rattle.machine.specs.Codes.{role_receive, held_kind, kind_arriving, kind_whole, kind_leaving}
 use Rattle.machine.specs.Values.{Rec, key_of, same_key}
 use Rattle.machine.specs.Tests.{every}
@@ -29,7 +29,7 @@ use Rattle.machine_laws.specs.Chains.{map-place}
 use Rattle.machine_laws.specs.Marks.{three-is}
 use Rattle.machine_laws.specs.StoreRows.{pieces-append}
 use Rattle.rows.specs.Asked.{head_fits, own_tests, record_fits, piece_fits}
-use Rattle.soundness.specs.Walked.{Room, RecordsInside, Chained, pieces_at, pieces_of, no_marks, records_once}
+use Rattle.soundness.specs.Walked.{Room, RecordsInside, pieces_at, pieces_of, no_marks, records_once}
 use Rattle.soundness.specs.Walked.{cells_once, readable, pieces_fit, record_pieces, unlike, records_fit, counted, no_counts, fair_on}
 use Rattle.soundness.proofs.Shares.{fair-two}
 
@@ -196,10 +196,6 @@ module _ (b : List ℕ) where
   unfolding walk
   no_record x = cases (eqb x 0) (λ e. rw e) (λ e. rw e)
 
-  no-chain : rec_chain b 0 ≡ []
-  unfolding walk
-  no-chain = refl
-
 -- ---- all of it
 
 none-marked : (k : ℕ) → get_or no_marks k 0 ≡ 0
@@ -226,11 +222,17 @@ module _ (role : ℕ) (b : List ℕ) where
   abbrev Q : List ℕ
   Q = cell_chain b (get_or b free_cells_at 0)
 
-  pub head-room : head_fits role b ≡ true → Room C b
+  pub head_room : head_fits role b ≡ true → Room C b
   unfolding head_fits decode
-  head-room h =
+  head_room h =
       let f = every_true (head_tests role b (decode b)) h in
       record { most = (inside_is most_cells C f.0).1; long = eqb-true (length b) (store_bytes C) f.1.0 }
+
+  pub head_long : head_fits role b ≡ true → head_bytes ≤ length b
+  head_long h = let r = head_room h in omega (arith, r.long)
+
+  pub store_room : {cells : ℕ} → head_fits role b ≡ true → cells ≡ C → Room cells b
+  store_room h e = subst (λ (n : ℕ). Room n b) (sym e) (head_room h)
 
   -- what the marks of the records find, and of the cells
   record RecordsFound : Type 0 where
@@ -304,7 +306,7 @@ module _ (role : ℕ) (b : List ℕ) where
     cells : CellsFound
     kinds : (eqb role role_receive || eqb (get_or b whole_at 0) 0) ≡ true
     held : records_fit (held_kind role) b P₁ P₂ ≡ true
-    whole : records_fit kind_whole b P₂ (rec_chain b 0) ≡ true
+    whole : records_fit kind_whole b P₂ [] ≡ true
     sources : (not (eqb role role_receive) || fair most_of_source (recs_at b P₁ ++ recs_at b P₂)) ≡ true
 
   rec-list : rec_places (decode b) ≡ P₀ ++ (P₁ ++ P₂)
@@ -317,9 +319,6 @@ module _ (role : ℕ) (b : List ℕ) where
 
   abbrev shaped : ℕ → Bool
   shaped k = cell_shape (cell_at b k)
-
-  apart-is : apart b P₂ (rec_chain b 0) ≡ apart b P₂ []
-  apart-is = ap (apart b P₂) (no-chain b)
 
   sound-found : sound role b ≡ true → Found
   unfolding sound head_fits decode
@@ -350,8 +349,8 @@ module _ (role : ℕ) (b : List ℕ) where
         kinds = sym (ap (λ (x : Bool). eqb role role_receive || x) (no_record b (get_or b whole_at 0))) ∙ a.1.1.1.0;
         held = fit_is b (held_kind role) P₁ P₂ ∙ both (all (record_pieces (held_kind role) b) P₁) (apart b P₁ P₂) held.pieces keys.0;
         whole =
-            fit_is b kind_whole P₂ (rec_chain b 0)
-            ∙ both (all (record_pieces kind_whole b) P₂) (apart b P₂ (rec_chain b 0)) whole.pieces (apart-is ∙ keys.1);
+            fit_is b kind_whole P₂ []
+            ∙ both (all (record_pieces kind_whole b) P₂) (apart b P₂ []) whole.pieces keys.1;
         sources = a.1.1.1.1.1.1.1.1.0;
       }
 
@@ -359,7 +358,7 @@ module _ (role : ℕ) (b : List ℕ) where
   unfolding sound head_fits decode
   found-sound f =
       let h = split (all (record_pieces (held_kind role) b) P₁) (apart b P₁ P₂) (sym (fit_is b (held_kind role) P₁ P₂) ∙ f.held) in
-      let w = split (all (record_pieces kind_whole b) P₂) (apart b P₂ (rec_chain b 0)) (sym (fit_is b kind_whole P₂ (rec_chain b 0)) ∙ f.whole) in
+      let w = split (all (record_pieces kind_whole b) P₂) (apart b P₂ []) (sym (fit_is b kind_whole P₂ []) ∙ f.whole) in
       let held = chain-asked b role (held_kind role) P₁ (record { rows = f.records.held; cells = f.cells.held; pieces = h.0 }) in
       let whole = chain-asked b role kind_whole P₂ (record { rows = f.records.whole; cells = f.cells.whole; pieces = w.0 }) in
       let pieces : all shaped (piece_places ((decode b).held ++ (decode b).whole)) ≡ true =
@@ -369,7 +368,7 @@ module _ (role : ℕ) (b : List ℕ) where
       & (ap (λ (x : Bool). eqb role role_receive || x) (no_record b (get_or b whole_at 0)) ∙ f.kinds)
       & (ap (once rec_count) rec-list ∙ f.records.places)
       & (ap (λ (l : List ℕ). once C (Q ++ l)) piece-list ∙ f.cells.places)
-      & (distinct-two b P₁ P₂ ∙ both (apart b P₁ P₂) (apart b P₂ []) h.1 (sym apart-is ∙ w.1))
+      & (distinct-two b P₁ P₂ ∙ both (apart b P₁ P₂) (apart b P₂ []) h.1 w.1)
       & true-every (shape_tests role b (decode b))
       ((ap (all (λ p. rec_shape (held_kind role) (rec_at b p))) (recs-places b P₁) ∙ held.shapes)
       & (ap (all (λ p. rec_shape kind_whole (rec_at b p))) (recs-places b P₂) ∙ whole.shapes)
@@ -379,21 +378,21 @@ module _ (role : ℕ) (b : List ℕ) where
   -- ---- what the code learns on its way
 
   -- what a sound store has is missing
-  not_sound : (sound role b ≡ true → ⊥) → false ≡ sound role b
-  not_sound n = cases (sound role b) (λ e. absurd (n e)) (λ e. sym e)
+  not_sound : (sound role b ≡ true → ⊥) → sound role b ≡ false
+  not_sound n = cases (sound role b) (λ e. absurd (n e)) (λ e. e)
 
-  pub no-head : head_fits role b ≡ false → false ≡ sound role b
-  no-head h = not_sound (λ t. clash (sound-found t).head h)
+  pub no_head : head_fits role b ≡ false → sound role b ≡ false
+  no_head h = not_sound (λ t. clash (sound-found t).head h)
 
-  pub no-records : records_once role b ≡ false → false ≡ sound role b
-  no-records h = not_sound (λ t. clash (found-records (sound-found t).records) h)
+  pub no_records : records_once role b ≡ false → sound role b ≡ false
+  no_records h = not_sound (λ t. clash (found-records (sound-found t).records) h)
 
-  pub no_cells : Room C b → cells_once C role b ≡ false → false ≡ sound role b
-  no_cells r h = not_sound (λ t. clash (found-cells r (sound-found t).cells) h)
+  pub no_cells : {cells : ℕ} → cells ≡ C → head_fits role b ≡ true → cells_once cells role b ≡ false → sound role b ≡ false
+  no_cells e f h = not_sound (λ t. clash (found-cells (head_room f) (sound-found t).cells) (ap (λ (n : ℕ). cells_once n role b) (sym e) ∙ h))
 
   -- the records that were met lie inside
-  pub records-inside : records_once role b ≡ true → RecordsInside b
-  records-inside h =
+  pub records_inside : records_once role b ≡ true → RecordsInside b
+  records_inside h =
       let u = split (all (inside rec_count) (P₀ ++ (P₁ ++ P₂))) (each rec_count (P₀ ++ (P₁ ++ P₂))) (records-found h).places in
       let w = all-parts (inside rec_count) P₁ P₂ (all-parts (inside rec_count) P₀ (P₁ ++ P₂) u.0).1 in
       record { held = w.0; whole = w.1 }
@@ -415,26 +414,25 @@ module _ (role : ℕ) (b : List ℕ) where
         let u = split (all (inside C) (Q ++ (pieces_of b P₁ ++ pieces_of b P₂))) (each C (Q ++ (pieces_of b P₁ ++ pieces_of b P₂))) (cells-found r g).places in
         all-parts (inside C) (pieces_of b P₁) (pieces_of b P₂) (all-parts (inside C) Q (pieces_of b P₁ ++ pieces_of b P₂) u.0).1
 
-    pub held-chained : Chained C b (get_or b held_at 0)
-    held-chained = record { room = r; within = (records-inside h).held; pieces = pieces-readable (pieces_of b P₁) places-in.0 (cells-found r g).held }
+    held-read : all (readable C b) (pieces_of b P₁) ≡ true
+    held-read = pieces-readable (pieces_of b P₁) places-in.0 (cells-found r g).held
 
-    pub whole-chained : Chained C b (get_or b whole_at 0)
-    whole-chained = record { room = r; within = (records-inside h).whole; pieces = pieces-readable (pieces_of b P₂) places-in.1 (cells-found r g).whole }
+    whole-read : all (readable C b) (pieces_of b P₂) ≡ true
+    whole-read = pieces-readable (pieces_of b P₂) places-in.1 (cells-found r g).whole
 
     -- the last tests decide; where the records fit, their pieces are counted
     module _ (f : head_fits role b ≡ true) (m : List ℕ) (x y : Bool) (p : x ≡ records_fit (held_kind role) b P₁ P₂)
-        (q : y ≡ records_fit kind_whole b P₂ (rec_chain b 0)) (n : x ≡ true → y ≡ true → m ≡ counted b P₂ (counted b P₁ no_counts)) where
+        (q : y ≡ records_fit kind_whole b P₂ []) (n : x ≡ true → y ≡ true → m ≡ counted b P₂ (counted b P₁ no_counts)) where
       abbrev fits : Bool
       fits = (eqb role role_receive || eqb (get_or b whole_at 0) 0) && (x && y)
 
       abbrev shared : Bool
-      shared = not (eqb role role_receive) || (fair_on most_of_source b m P₁ P₂ && fair_on most_of_source b m P₂ (rec_chain b 0))
+      shared = not (eqb role role_receive) || (fair_on most_of_source b m P₁ P₂ && fair_on most_of_source b m P₂ [])
 
       shared-is : x ≡ true → y ≡ true → (not (eqb role role_receive) || fair most_of_source (recs_at b P₁ ++ recs_at b P₂)) ≡ shared
       shared-is u w =
           ap (λ (z : Bool). not (eqb role role_receive) || z)
-          (fair-two b most_of_source P₁ P₂ (records-inside h).held (records-inside h).whole m (n u w)
-          ∙ ap (λ (l : List ℕ). fair_on most_of_source b m P₁ P₂ && fair_on most_of_source b m P₂ l) (sym (no-chain b)))
+          (fair-two b most_of_source P₁ P₂ (records_inside h).held (records_inside h).whole m (n u w))
 
       decided : (fits && shared) ≡ sound role b
       decided = iff (fits && shared) (sound role b) to from
@@ -461,31 +459,27 @@ module _ (role : ℕ) (b : List ℕ) where
               let w : y ≡ true = q ∙ d.whole in
               both fits shared (both (eqb role role_receive || eqb (get_or b whole_at 0) 0) (x && y) d.kinds (both x y u w)) (sym (shared-is u w) ∙ d.sources)
 
-    pub sound-is : head_fits role b ≡ true → (kind held whole : ℕ) (x y z : Bool) (m₁ m : List ℕ) → kind ≡ held_kind role → held ≡ get_or b held_at 0
-        → whole ≡ get_or b whole_at 0
-        → (x ≡ records_fit kind b (rec_chain b held) (rec_chain b whole)) × (x ≡ true → m₁ ≡ counted b (rec_chain b held) no_counts)
-        → (y ≡ records_fit kind_whole b (rec_chain b whole) (rec_chain b 0)) × (y ≡ true → m ≡ counted b (rec_chain b whole) m₁)
-        → z ≡ (not (eqb role role_receive)
-        || (fair_on most_of_source b m (rec_chain b held) (rec_chain b whole) && fair_on most_of_source b m (rec_chain b whole) (rec_chain b 0)))
-        → (((eqb role role_receive || eqb whole 0) && (x && y)) && z) ≡ sound role b
-    sound-is f kind held whole x y z m₁ m k a e p q s =
-        let one : rec_chain b held ≡ P₁ = ap (rec_chain b) a in
-        let two : rec_chain b whole ≡ P₂ = ap (rec_chain b) e in
-        (λ i. ((eqb role role_receive || eqb (e i) 0) && (x && y))
-        && (s ∙ (λ j. not (eqb role role_receive) || (fair_on most_of_source b m (one j) (two j) && fair_on most_of_source b m (two j) (rec_chain b 0)))) i)
-        ∙ decided f m x y (p.0 ∙ (λ i. records_fit (k i) b (one i) (two i))) (q.0 ∙ ap (λ (l : List ℕ). records_fit kind_whole b l (rec_chain b 0)) two)
-        (λ u w. q.1 w ∙ (λ i. counted b (two i) ((p.1 u ∙ ap (λ (l : List ℕ). counted b l no_counts) one) i)))
+  -- the same of the number of cells that the code has read
+  module _ {cells : ℕ} (e : cells ≡ C) (f : head_fits role b ≡ true) (h : records_once role b ≡ true) (g : cells_once cells role b ≡ true) where
+    each-once : cells_once C role b ≡ true
+    each-once = ap (λ (n : ℕ). cells_once n role b) (sym e) ∙ g
 
-  -- the same of numbers that the code has read
-  pub room_at : (cells : ℕ) → cells ≡ C → Room C b → Room cells b
-  room_at cells e r = subst (λ (n : ℕ). Room n b) (sym e) r
+    pub held_read : all (readable cells b) (pieces_of b P₁) ≡ true
+    held_read = ap (λ (n : ℕ). all (readable n b) (pieces_of b P₁)) e ∙ held-read (head_room f) h each-once
 
-  pub cells_at : (cells : ℕ) (x : Bool) → cells ≡ C → x ≡ cells_once cells role b → cells_once C role b ≡ x
-  cells_at cells x e q = ap (λ (n : ℕ). cells_once n role b) (sym e) ∙ sym q
+    pub whole_read : all (readable cells b) (pieces_of b P₂) ≡ true
+    whole_read = ap (λ (n : ℕ). all (readable n b) (pieces_of b P₂)) e ∙ whole-read (head_room f) h each-once
 
-  pub chained-at : (cells x start : ℕ) → cells ≡ C → x ≡ start → Chained C b start → Chained cells b x
-  chained-at cells x start e f h = subst (λ (n : ℕ). Chained n b x) (sym e) (subst (λ (n : ℕ). Chained C b n) (sym f) h)
+    pub sound_is : {x y z : Bool} {m₁ m : List ℕ}
+        → (x ≡ records_fit (held_kind role) b P₁ P₂) × (x ≡ true → m₁ ≡ counted b P₁ no_counts)
+        → (y ≡ records_fit kind_whole b P₂ []) × (y ≡ true → m ≡ counted b P₂ m₁)
+        → z ≡ (not (eqb role role_receive) || (fair_on most_of_source b m P₁ P₂ && fair_on most_of_source b m P₂ []))
+        → (((eqb role role_receive || eqb (get_or b whole_at 0) 0) && (x && y)) && z) ≡ sound role b
+    sound_is {x} {y} {z} {m₁} {m} p q s =
+        ap (λ (w : Bool). ((eqb role role_receive || eqb (get_or b whole_at 0) 0) && (x && y)) && w) s
+        ∙ decided (head_room f) h each-once f m x y p.0 q.0 (λ u w. q.1 w ∙ ap (counted b P₂) (p.1 u))
 
--- a walk that starts nowhere
-pub none_inside : (b : List ℕ) → all (inside rec_count) (rec_chain b 0) ≡ true
-none_inside b = ap (all (inside rec_count)) (no-chain b)
+-- what the head gives, and what the parts of the check give one after the other
+pub ruleset heads = (head_long, store_room)
+
+pub ruleset parts = (no_records, no_cells, records_inside, held_read, whole_read, sound_is)

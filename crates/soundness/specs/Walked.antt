@@ -1,10 +1,10 @@
 -- What each function of the check computes, over machine's definitions: chains walked with marks, the pieces of records, and the keys and sources of
 -- records.
--- Together they are `sound`: Checked says so.
+-- Together they are `sound`: `sound_is` of proofs/Whole.antt says so.
 use Rattle.std.specs.Prelude.{ℕ, suc, ◌+◌, ◌*◌, ◌≤◌, ◌<◌, ◌≡◌, Bool, true, ◌&&◌, ◌||◌, not, cond, List, [], ◌∷◌, ◌++◌, length, get_or, set, replicate, eqb, leb, ltb}
 use Rattle.octets.specs.Octets.{part, same}
 use Rattle.octets.specs.Lists.{all}
-use Rattle.machine.specs.Limits.{head_bytes, rec_count, rec_bytes, cell_bytes, most_cells, store_bytes, cut_by}
+use Rattle.machine.specs.Limits.{rec_count, rec_bytes, cell_bytes, most_cells, store_bytes, cut_by}
 use Rattle.machine.specs.Codes.{held_kind, kind_arriving, kind_whole, kind_leaving}
 use Rattle.machine.specs.Values.{Cell, Key, key_of, same_key}
 use Rattle.machine.specs.Rows.{row_off}
@@ -26,9 +26,7 @@ use Rattle.soundness.specs.declared.chain.Table.{Table}
 abbrev pub row_of : Table → List ℕ → ℕ → List ℕ
 row_of t b p = part b (row_off t.start t.size p) t.size
 
-abbrev pub record_table : Table
-record_table = record { start = head_bytes; size = rec_bytes; count = rec_count; steps = suc rec_count }
-
+-- the cells of a store that has so many
 abbrev pub cell_table : ℕ → Table
 cell_table cells = record { start = store_bytes 0; size = cell_bytes; count = cells; steps = suc most_cells }
 
@@ -58,7 +56,7 @@ pieces_of b [] = []
 pieces_of b (p ∷ ps) = pieces_at b p ++ pieces_of b ps
 
 -- walked with marks
-abbrev pub pieces_marked : ℕ → ℕ → List ℕ → List ℕ → List ℕ → Walked
+unfoldable pub pieces_marked : ℕ → ℕ → List ℕ → List ℕ → List ℕ → Walked
 pieces_marked cells role b ps m = scan (λ p. row_fits role Piece cell_bytes (cell_at b p)) cells (pieces_of b ps) m
 
 -- no place is marked at first
@@ -98,10 +96,6 @@ pieces_fit kind slots total cs = rising 0 slots cs && complete kind slots total 
 
 unfoldable pub record_pieces : ℕ → List ℕ → ℕ → Bool
 record_pieces kind b p = pieces_fit kind (get_or (rec_at b p) slots_at 0) (num_at number_width (rec_at b p) total_at) (read_cells b (get_or (rec_at b p) first_cell_at 0))
-
--- how many pieces there are from the first one on
-abbrev pub piece_count : List ℕ → ℕ → ℕ
-piece_count b first = length (cell_chain b first)
 
 -- ---- keys
 
@@ -143,12 +137,6 @@ fair_on most b m (p ∷ l) o = leb (get_or m p 0 + (total (share_at b m p) l + t
 -- a record's place
 abbrev pub At : ℕ → Type 0
 At p = (0 < p) × (p ≤ rec_count)
-
--- the records of the chain from x on lie inside, and their pieces can be read
-pub record Chained (cells : ℕ) (b : List ℕ) (x : ℕ) : Type 0 where
-  pub room : Room cells b
-  pub within : all (inside rec_count) (rec_chain b x) ≡ true
-  pub pieces : all (readable cells b) (pieces_of b (rec_chain b x)) ≡ true
 
 -- the held and the whole records lie inside
 pub record RecordsInside (b : List ℕ) : Type 0 where

@@ -1,6 +1,6 @@
-// Document 01's "Sound", decided on any bytes, and setup. The chains are walked with marks, so that each record and cell is
-// found in one chain and every link in range before anything that rests on it is read; a walk ends after as many steps as
-// there are places.
+// Whether bytes are a sound store, as PROTOCOL's "Stores" asks, decided on any bytes; and setup. The chains are walked with
+// marks, so that each record and cell is found in one chain and every link in range before anything that rests on it
+// is read; a walk ends after as many steps as there are places, and one more.
 
 #![tactic(auto)]
 

@@ -1,107 +1,170 @@
 // The records of a chain: each with its pieces, which are counted, and with an id of its own.
-ghost use Rattle.std.specs.Prelude.{◌≡◌, true, suc, ◌-◌, ◌≤◌, ◌<◌, length, get_or};
+
+ghost use Rattle.std.specs.Prelude.{◌≡◌, true, suc, ◌+◌, ◌≤◌, ◌<◌, length, get_or, []};
+ghost use Rattle.std.specs.Bool.{then_some};
+ghost use Rattle.octets.specs.Octets.{part, same};
 ghost use Rattle.octets.specs.Lists.{all};
 ghost use Rattle.machine.specs.Limits.{rec_count, rec_bytes};
-ghost use Rattle.machine.specs.Values.{same_key};
 ghost use Rattle.machine.specs.Counting.{inside};
 ghost use Rattle.machine.specs.Chains.{link, walk};
 ghost use Rattle.machine.specs.Layout.{rec_at, rec_chain};
-ghost use Rattle.soundness.specs.Walked.{Room, At, Chained, key_at, unlike, pieces_at};
-ghost use Rattle.soundness.specs.Walked.{record_pieces, readable, records_fit, counted};
+ghost use Rattle.machine.specs.Values.{same_key};
+ghost use Rattle.soundness.specs.Walked.{At, key_at, unlike, pieces_at, pieces_of, readable};
+ghost use Rattle.soundness.specs.Walked.{record_pieces, records_fit, counted};
 
-use crate::pieces::Pieces;
-use rows::record::{BYTES, ID_SIZE, Record, STEPS, record_at};
+use crate::chain::Table;
+use crate::store::Store;
+use rows::record::{Record, STEPS};
 
-// A byte of the record x.
-pub fn byte(s: &[u8], cells: usize, x: usize, field: usize) -> usize
-    requires { Room cells s.now × At x × (field < rec_bytes) }
-    ensures { result ≡ get_or (rec_at s.now x) field 0 }
-{
-    octets::small(s[record_at(x) + field])
+// The place of a record.
+#[derive(Clone, Copy)]
+pub struct Place {
+    pub number: usize,
+    ghost inside: { At number },
 }
 
-// Whether the records x and y have one key.
-fn same_key(s: &[u8], cells: usize, x: usize, y: usize) -> bool
-    requires { Room cells s.now × At x × At y }
-    ensures { result ≡ same_key (key_at s.now x) (key_at s.now y) }
-{
-    let a = record_at(x) + Record::ID;
-    let e = record_at(y) + Record::ID;
-    octets::equal(&s[a..a + ID_SIZE], &s[e..e + ID_SIZE])
+// What is left of a chain of records: the place of the next one, 0 for none, and the steps of the walk. All records
+// ahead lie inside.
+#[derive(Clone, Copy)]
+pub struct Records<'a> {
+    pub store: Store<'a>,
+    pub next: usize,
+    pub left: usize,
+    ghost few: { left ≤ suc rec_count },
+    ghost within: { all (inside rec_count) (walk (link (rec_at store.bytes.now)) left next) ≡ true },
 }
 
-// Whether no record from `first` on, where `made` steps of the walk are made, has the key of the record x.
-fn no_other(s: &[u8], cells: usize, x: usize, first: usize, made: usize) -> bool
-    requires { let b = s.now in
-        Room cells b × At x × (made ≤ suc rec_count)
-        × (all (inside rec_count) (walk (link (rec_at b)) (suc rec_count - made) first) ≡ true) }
-    ensures { let b = s.now in
-        result ≡ all (unlike b x) (walk (link (rec_at b)) (suc rec_count - made) first) }
+// Whether two rows have the same eight bytes at a. Numbers are compared, since every two records are.
+#[tactic(auto, using(crate::proofs::Same::numbers_same))]
+pub fn same_eight(s: &[u8], t: &[u8], a: usize) -> bool
+    requires { (a + 8 ≤ length s.now) × (a + 8 ≤ length t.now) }
+    ensures { result ≡ same (part s.now a 8) (part t.now a 8) }
 {
-    let mut y: usize = first;
-    let mut n: usize = made;
-    while n < STEPS {
-        if y == 0 {
-            return true;
-        }
-        let one = same_key(s, cells, x, y);
-        if one {
-            return false;
-        }
-        y = byte(s, cells, y, Record::NEXT);
-        n += 1;
+    octets::read::<8>(s, a) == octets::read::<8>(t, a)
+}
+
+impl<'a> Store<'a> {
+    ghost use Rattle.soundness.specs.Places.{places};
+
+    // The row of the record x.
+    pub fn record(self, x: Place) -> &'a [u8]
+        ensures { (result.now ≡ rec_at self.entry.bytes.now x.number) × (length result.now ≡ rec_bytes) }
+    {
+        self.row(Table::RECORDS, x.number)
     }
-    true
-}
 
-// Whether the record x has the pieces that its kind asks for.
-fn has_pieces(s: &[u8], cells: usize, x: usize, kind: u64) -> Pieces
-    requires { Room cells s.now × At x × (all (readable cells s.now) (pieces_at s.now x) ≡ true) }
-    ensures { let b = s.now in
-        (result.fine ≡ record_pieces kind b x) × (result.fine ≡ true → result.count ≡ length (pieces_at b x)) }
-{
-    let off = record_at(x);
-    let row = &s[off..off + BYTES];
-    let first = octets::small(row[Record::FIRST_CELL]);
-    let slots = octets::wide(row[Record::SLOTS]);
-    let length = octets::get64(row, Record::LENGTH);
-    crate::pieces::fit(s, cells, first, kind, slots, length)
-}
-
-// Whether each record from `first` on has its pieces, and a key that neither a later one nor one from `other` on has; then
-// `counts` has the number of its pieces at its place.
-pub fn fit(
-    s: &[u8],
-    cells: usize,
-    kind: u64,
-    first: usize,
-    other: usize,
-    counts: &mut [u8; STEPS],
-) -> bool
-    requires { Chained cells s.now first × (all (inside rec_count) (rec_chain s.now other) ≡ true) }
-    ensures { let b = s.now in
-        (result ≡ records_fit kind b (rec_chain b first) (rec_chain b other))
-        × (result ≡ true → counts.new ≡ counted b (rec_chain b first) counts.old) }
-{
-    let mut x: usize = first;
-    let mut n: usize = 0;
-    while n < STEPS {
-        if x == 0 {
-            return true;
-        }
-        let pieces = has_pieces(s, cells, x, kind);
-        let next = byte(s, cells, x, Record::NEXT);
-        let later = no_other(s, cells, x, next, n + 1);
-        let others = no_other(s, cells, x, other, 0);
-        let own = pieces.fine;
-        let count = pieces.count;
-        let fine = own & (later & others);
-        if !fine {
-            return false;
-        }
-        counts[x] = count;
-        x = next;
-        n += 1;
+    // A byte of the record x.
+    pub fn byte(self, x: Place, field: usize) -> usize
+        requires { field < rec_bytes }
+        ensures { result ≡ get_or (rec_at self.entry.bytes.now x.number) field 0 }
+    {
+        usize::from(self.record(x)[field])
     }
-    true
+
+    // No records.
+    #[tactic(auto, using(crate::proofs::Walks::walk_out))]
+    pub fn no_records(self) -> Records<'a>
+        ensures { places result ≡ [] }
+    {
+        Records {
+            store: self,
+            next: 0,
+            left: 0,
+        }
+    }
+
+    // The records of a chain.
+    pub fn records(self, first: usize) -> Records<'a>
+        requires { all (inside rec_count) (rec_chain self.bytes.now first) ≡ true }
+        ensures { places result ≡ rec_chain self.entry.bytes.now first }
+    {
+        Records {
+            store: self,
+            next: first,
+            left: STEPS,
+        }
+    }
+
+    // Whether the records x and y have one key.
+    #[tactic(auto, unfolding(machine::specs::Values::same_key))]
+    fn same_key(self, x: Place, y: Place) -> bool
+        ensures { let b = self.entry.bytes.now in
+            result ≡ same_key (key_at b x.number) (key_at b y.number) }
+    {
+        same_eight(self.record(x), self.record(y), Record::ID)
+    }
+
+    // Whether none of the records has the key of the record x.
+    fn no_other(self, x: Place, mut records: Records<'_>) -> bool
+        ensures { result ≡ all (unlike self.entry.bytes.now x.number) (places records.entry) }
+    {
+        records.all(|y| !self.same_key(x, y))
+    }
+
+    // How many pieces the record x has, if they are as the kind asks.
+    #[tactic(auto, unfolding(crate::specs::Walked::record_pieces))]
+    fn count_pieces(self, x: Place, kind: u64) -> Option<u8>
+        requires { all (readable self.cells self.bytes.now) (pieces_at self.bytes.now x.number) ≡ true }
+        ensures { let b = self.entry.bytes.now in
+            result ≡ then_some (record_pieces kind b x.number) (length (pieces_at b x.number)) }
+    {
+        let row = self.record(x);
+        let first = usize::from(row[Record::FIRST_CELL]);
+        let slots = u64::from(row[Record::SLOTS]);
+        let length = octets::read::<8>(row, Record::LENGTH);
+        self.pieces(first).fit(kind, slots, length)
+    }
+
+    // Whether each of the records has its pieces, and a key that neither a later one nor one of the others has; then
+    // `counts` has the number of its pieces at its place.
+    #[tactic(auto, using(crate::proofs::Rests::records))]
+    pub fn records_fit(
+        self,
+        kind: u64,
+        mut records: Records<'_>,
+        others: Records<'_>,
+        counts: &mut [u8; STEPS],
+    ) -> bool
+        requires { let b = self.bytes.now in
+            all (readable self.cells b) (pieces_of b (places records)) ≡ true }
+        ensures { let b = self.entry.bytes.now in
+            (result ≡ records_fit kind b (places records.entry) (places others.entry))
+            × (result ≡ true → counts.new ≡ counted b (places records.entry) counts.old) }
+    {
+        while let Some(x) = records.next() {
+            let pieces = self.count_pieces(x, kind);
+            let later = self.no_other(x, records);
+            let other = self.no_other(x, others);
+            match pieces {
+                Some(count) if later & other => counts[x.number] = count,
+                _ => return false,
+            }
+        }
+        true
+    }
+}
+
+impl Iterator for Records<'_> {
+    ghost use Rattle.std.specs.Iterator.{YieldsFirstBy, item_count};
+    ghost use Rattle.soundness.specs.Places.{places};
+
+    type Item = Place;
+
+    ghost next_gives = { YieldsFirstBy (λ x. x.number) places };
+
+    ghost remaining = { item_count places };
+
+    #[tactic(auto, using(crate::proofs::Walks::walks))]
+    fn next(&mut self) -> Option<Place> {
+        if self.next == 0 || self.left == 0 {
+            return None;
+        }
+        let place = Place { number: self.next };
+        *self = Records {
+            store: self.store,
+            next: self.store.byte(place, Record::NEXT),
+            left: self.left - 1,
+        };
+        Some(place)
+    }
 }

@@ -1,116 +1,83 @@
 // The cells that the records of one source hold together, by the counts of their pieces.
-ghost use Rattle.std.specs.Prelude.{◌≡◌, true, not, ◌&&◌, ◌||◌, suc, ◌*◌, ◌-◌, ◌≤◌, ◌<◌, eqb};
+
+ghost use Rattle.std.specs.Prelude.{◌≡◌, not, ◌&&◌, ◌||◌, suc, ◌*◌, ◌≤◌, ◌<◌, [], eqb};
 ghost use Rattle.octets.specs.Octets.{same};
-ghost use Rattle.octets.specs.Lists.{all};
 ghost use Rattle.machine.specs.Limits.{rec_count, most_of_source};
 ghost use Rattle.machine.specs.Codes.{role_receive};
-ghost use Rattle.machine.specs.Counting.{inside, total};
-ghost use Rattle.machine.specs.Chains.{link, walk};
-ghost use Rattle.machine.specs.Layout.{rec_at, rec_chain};
-ghost use Rattle.soundness.specs.Walked.{Room, At, source_of, share_at, fair_on};
+ghost use Rattle.machine.specs.Counting.{total};
+ghost use Rattle.soundness.specs.Walked.{source_of, share_at, fair_on};
 
-use rows::record::{ADDRESS_SIZE, MOST_OF_SOURCE, Record, STEPS, record_at};
+use crate::records::{Place, Records, same_eight};
+use crate::store::Store;
+use rows::record::{MOST_OF_SOURCE, Record, STEPS};
 
-// The bytes of half an address: as much as a number has.
-const HALF: usize = ADDRESS_SIZE / 2;
+impl Store<'_> {
+    ghost use Rattle.soundness.specs.Places.{places};
 
-// Whether the records x and y have one source. Numbers are compared, since every two records are.
-fn same_source(s: &[u8], cells: usize, x: usize, y: usize) -> bool
-    requires { Room cells s.now × At x × At y }
-    ensures { result ≡ same (source_of s.now x) (source_of s.now y) }
-{
-    let a = record_at(x) + Record::SOURCE;
-    let e = record_at(y) + Record::SOURCE;
-    let front = octets::get64(s, a) == octets::get64(s, e);
-    let back = octets::get64(s, a + HALF) == octets::get64(s, e + HALF);
-    front & back
-}
-
-// The cells that the record y holds for the source of the record x.
-fn share(s: &[u8], cells: usize, counts: &[u8; STEPS], x: usize, y: usize) -> u64
-    requires { Room cells s.now × At x × At y }
-    ensures { (result ≡ share_at s.now counts.now x y) × (result < 256) }
-{
-    if !same_source(s, cells, x, y) {
-        return 0;
+    // Whether the records x and y have one source.
+    #[tactic(auto, using(crate::proofs::Same::halves_same))]
+    fn same_source(self, x: Place, y: Place) -> bool
+        ensures { let b = self.entry.bytes.now in
+            result ≡ same (source_of b x.number) (source_of b y.number) }
+    {
+        let one = self.record(x);
+        let two = self.record(y);
+        same_eight(one, two, Record::SOURCE) & same_eight(one, two, Record::SOURCE + 8)
     }
-    octets::wide(counts[y])
-}
 
-// The cells that the records from `first` on, where `made` steps of the walk are made, hold for the source of the
-// record x.
-fn shares(s: &[u8], cells: usize, counts: &[u8; STEPS], x: usize, first: usize, made: usize) -> u64
-    requires { let b = s.now in
-        Room cells b × At x × (made ≤ suc rec_count)
-        × (all (inside rec_count) (walk (link (rec_at b)) (suc rec_count - made) first) ≡ true) }
-    ensures { let b = s.now in
-        (result ≡ total (share_at b counts.now x) (walk (link (rec_at b)) (suc rec_count - made) first))
-        × (result ≤ 256 * suc rec_count) }
-{
-    let mut y: usize = first;
-    let mut n: usize = made;
-    let mut sum: u64 = 0;
-    while n < STEPS {
-        if y == 0 {
-            return sum;
+    // The cells that the record y holds for the source of the record x.
+    #[tactic(auto, unfolding(crate::specs::Walked::share_at))]
+    fn share(self, counts: &[u8; STEPS], x: Place, y: Place) -> u64
+        ensures { (result ≡ share_at self.entry.bytes.now counts.now x.number y.number) × (result < 256) }
+    {
+        if self.same_source(x, y) {
+            u64::from(counts[y.number])
+        } else {
+            0
         }
-        let more = share(s, cells, counts, x, y);
-        sum += more;
-        y = crate::records::byte(s, cells, y, Record::NEXT);
-        n += 1;
     }
-    sum
-}
 
-// Whether the source of each record from `first` on holds at most its share: in it, the later ones and those from
-// `other` on.
-fn within(s: &[u8], cells: usize, counts: &[u8; STEPS], first: usize, other: usize) -> bool
-    requires { let b = s.now in
-        Room cells b × (all (inside rec_count) (rec_chain b first) ≡ true)
-        × (all (inside rec_count) (rec_chain b other) ≡ true) }
-    ensures { let b = s.now in
-        result ≡ fair_on most_of_source b counts.now (rec_chain b first) (rec_chain b other) }
-{
-    let mut x: usize = first;
-    let mut n: usize = 0;
-    while n < STEPS {
-        if x == 0 {
+    // The cells that the records hold for the source of the record x.
+    #[tactic(auto, using(crate::proofs::Walks::places_few))]
+    fn shares(self, counts: &[u8; STEPS], x: Place, records: Records<'_>) -> u64
+        ensures { let b = self.entry.bytes.now in
+            (result ≡ total (share_at b counts.now x.number) (places records.entry))
+            × (result ≤ 256 * suc rec_count) }
+    {
+        let mut sum: u64 = 0;
+        for y in records {
+            sum += self.share(counts, x, y);
+        }
+        sum
+    }
+
+    // Whether the source of each of the records holds at most its share: in it, the later ones and the others.
+    #[tactic(auto, using(crate::proofs::Rests::shares))]
+    fn within(self, counts: &[u8; STEPS], mut records: Records<'_>, others: Records<'_>) -> bool
+        ensures { let b = self.entry.bytes.now in
+            result ≡ fair_on most_of_source b counts.now (places records.entry) (places others.entry) }
+    {
+        while let Some(x) = records.next() {
+            let own = u64::from(counts[x.number]);
+            let later = self.shares(counts, x, records);
+            let other = self.shares(counts, x, others);
+            if own + (later + other) > MOST_OF_SOURCE {
+                return false;
+            }
+        }
+        true
+    }
+
+    // Whether no source holds more than its share, in a store to receive that has these held and whole records.
+    pub fn fair(self, held: Records<'_>, whole: Records<'_>, counts: &[u8; STEPS]) -> bool
+        ensures { let fair = fair_on most_of_source self.entry.bytes.now counts.now in
+            let one = places held.entry in
+            let two = places whole.entry in
+            result ≡ (not (eqb self.entry.role role_receive) || (fair one two && fair two [])) }
+    {
+        if self.role != rows::head::RECEIVE {
             return true;
         }
-        let own = octets::wide(counts[x]);
-        let next = crate::records::byte(s, cells, x, Record::NEXT);
-        let later = shares(s, cells, counts, x, next, n + 1);
-        let others = shares(s, cells, counts, x, other, 0);
-        if own + (later + others) > MOST_OF_SOURCE {
-            return false;
-        }
-        x = next;
-        n += 1;
+        self.within(counts, held, whole) & self.within(counts, whole, self.no_records())
     }
-    true
-}
-
-// Whether no source holds more than its share, in a store to receive whose held and whole chains start there.
-pub fn fair(
-    s: &[u8],
-    cells: usize,
-    role: u64,
-    held: usize,
-    whole: usize,
-    counts: &[u8; STEPS],
-) -> bool
-    requires { let b = s.now in
-        Room cells b × (all (inside rec_count) (rec_chain b held) ≡ true)
-        × (all (inside rec_count) (rec_chain b whole) ≡ true) }
-    ensures { let b = s.now in
-        let m = counts.now in
-        let one = rec_chain b held in
-        let two = rec_chain b whole in
-        result ≡ (not (eqb role role_receive)
-        || (fair_on most_of_source b m one two && fair_on most_of_source b m two (rec_chain b 0))) }
-{
-    if role != rows::head::RECEIVE {
-        return true;
-    }
-    within(s, cells, counts, held, whole) & within(s, cells, counts, whole, 0)
 }

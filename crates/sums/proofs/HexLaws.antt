@@ -1,18 +1,12 @@
--- A text grows by the two digits of a byte; a line is a text and a line feed. Assumes nothing.
-use Prim.Native.Nat.{ℕ, ◌+◌, ◌*◌, ◌/◌, ◌%◌, ◌<◌, ◌≤◌}
+-- A text grows by the two digits of a byte. Assumes nothing.
+use Prim.Native.Nat.{ℕ, ◌+◌, ◌*◌, ◌/◌, ◌%◌, ◌<◌}
 use native.Mathlib.Numerals.{add-one}
 use native.Mathlib.Omega.{arith}
 use mathlib.Core.Path.{◌≡◌, refl, ap, sym, ◌∙◌}
 use mathlib.Core.List.{List, [], ◌∷◌, ◌++◌, append_assoc}
 use lib.ListN.{length, get_or, take, set, length-set}
 use lib.Seq.{take-suc, take-suc-set}
-use borrow.Author.Tests.{le-leb, lt-leb}
-use Rattle.octets.specs.Octets.{put}
-use Rattle.octets.specs.PartsLaws.{put-nil, length-put}
-use Rattle.octets.specs.WrittenLaws.{wrote, then}
-use Rattle.blake3.specs.Tree.{blake3}
-use Rattle.sums.specs.LineLaws.{length_digits}
-use Rattle.sums.specs.Line.{hex_digit, hexadecimal, line_feed, longest_input, sum_line}
+use Rattle.sums.specs.Line.{hex_digit, hexadecimal}
 
 -- the digits of a byte
 abbrev digits : ℕ → List ℕ
@@ -37,18 +31,3 @@ hex-more d text i a b h n e f g =
     ∙ (λ t. e t ++ (f t ∷ g t ∷ []))
     ∙ sym (hexadecimal-more (take i d) (get_or d i 0))
     ∙ ap hexadecimal (sym (ap (λ (k : ℕ). take k d) (add-one i) ∙ take-suc d i 0 h))
-
--- what the program writes, for an input that is too long and for any other
-module _ (input out : List ℕ) where
-  pub line-none : longest_input < length input → (0 ≡ length (sum_line input)) × (0 ≤ length out) × (out ≡ put out 0 (sum_line input))
-  unfolding sum_line
-  line-none h = rw (lt-leb _ longest_input h) (refl, omega arith, sym (put-nil out 0))
-
-  pub line-is : {m l text sum : List ℕ} → length input ≤ longest_input → length out ≡ 65 → sum ≡ blake3 input → text ≡ hexadecimal sum
-      → m ≡ put out 0 text → l ≡ put m 64 (line_feed ∷ []) → (65 ≡ length (sum_line input)) × (65 ≤ length l) × (l ≡ put out 0 (sum_line input))
-  unfolding sum_line
-  line-is {l = l} h n d e p q =
-      let size = length_digits input in
-      let line = then (line_feed ∷ []) 1 (wrote (p ∙ ap (put out 0) (e ∙ ap hexadecimal d)) size (omega arith)) q refl (omega arith) in
-      let kept : length l ≡ length out = ap length line.is ∙ length-put out 0 (hexadecimal (blake3 input) ++ (line_feed ∷ [])) (omega (arith, line.size)) in
-      rw (le-leb _ longest_input h) (sym line.size, omega arith, line.is)

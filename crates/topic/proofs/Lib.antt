@@ -1,2 +1,3 @@
 mod Prefix
-mod Walk
+mod Rest
+mod Tests

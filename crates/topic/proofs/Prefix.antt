@@ -4,13 +4,14 @@ use Prim.Native.Nat.{ℕ, zero, suc, ◌+◌, ◌*◌, ◌-◌, ◌/◌, ◌%◌
 use native.Mathlib.Omega.{arith}
 use native.Mathlib.Nat.{add-zero, add-suc}
 use mathlib.Core.Path.{◌≡◌, refl, sym, ap, ◌∙◌}
-use mathlib.Core.Bool.{Bool, true, false, ◌&&◌}
-use mathlib.Core.List.{List}
-use lib.ListN.{get_or}
+use mathlib.Core.Bool.{Bool, true, false, ◌&&◌, and-true}
+use mathlib.Core.List.{List, [], ◌∷◌}
+use Rattle.std.specs.Cmp.Lexicographic.{pointwise}
+use lib.ListN.{length, get_or, take}
 use lib.Dec.{eqb}
 use lib.Bits.{bit_and, and_high}
 use lib.Pow.{pow_pos, pow_mono, low, shl-shr, shr-shr, shr_mod}
-use borrow.Author.Tests.{eqb-true, eq-eqb, ne_eqb}
+use borrow.Author.Tests.{eqb-true, eq-eqb}
 use Rattle.octets.specs.BoolsLaws.{iff, split, both}
 use Rattle.topic.specs.Subnet.{inside}
 
@@ -27,9 +28,9 @@ masked x j k e h =
     ap (bit_and x) m ∙ ap (λ (n : ℕ). bit_and x (2 ^ n - 2 ^ k)) (sym e) ∙ and_high x j k ∙ ap (λ (n : ℕ). n * 2 ^ k) (shr_mod j k b)
 
 -- two bytes agree under the mask where their first bits are one number
-pub masked-alike : (x y k : ℕ) → k ≤ 8 → x < 256 → y < 256
+pub masked_alike : (x y k : ℕ) → k ≤ 8 → x < 256 → y < 256
     → eqb (bit_and x ((255 * 2 ^ k) % 2 ^ 8)) (bit_and y ((255 * 2 ^ k) % 2 ^ 8)) ≡ eqb (x / 2 ^ k) (y / 2 ^ k)
-masked-alike x y k h hx hy =
+masked_alike x y k h hx hy =
     let mx = masked x (8 - k) k (omega arith) hx in
     let my = masked y (8 - k) k (omega arith) hy in
     iff _ _
@@ -49,20 +50,6 @@ one_more p q =
 and_assoc : (p q r : Bool) → (p && q && r) ≡ (p && (q && r))
 and_assoc true q r = refl
 and_assoc false q r = refl
-
-and-true : (p : Bool) → (p && true) ≡ p
-and-true true = refl
-and-true false = refl
-
-and-false : (p : Bool) → (p && false) ≡ false
-and-false true = refl
-and-false false = refl
-
--- addresses that differ in their first j bits differ in more
-outside : (a net : List ℕ) (j d : ℕ) → inside a net j ≡ false → inside a net (j + d) ≡ false
-unfolding inside
-outside a net j zero h = ap (inside a net) (add-zero j) ∙ h
-outside a net j (suc d) h = ap (inside a net) (add-suc j d) ∙ rw (outside a net j d h)
 
 module _ (a net : List ℕ) (q : ℕ) (ha : get_or a q 0 < 256) (hn : get_or net q 0 < 256) where
   inside-bits : (j : ℕ) → j ≤ 8 → inside a net (8 * q + j) ≡ (inside a net (8 * q) && eqb (get_or a q 0 / 2 ^ (8 - j)) (get_or net q 0 / 2 ^ (8 - j)))
@@ -94,19 +81,29 @@ module _ (a net : List ℕ) (q : ℕ) (ha : get_or a q 0 < 256) (hn : get_or net
       div-one : (z : ℕ) → z / 1 ≡ z
       div-one z = omega arith
 
-  pub inside_on : inside a net (8 * q) ≡ true → get_or a q 0 ≡ get_or net q 0 → inside a net (8 * (q + 1)) ≡ true
-  inside_on h e = inside-byte ∙ both _ _ h (eq-eqb _ _ e)
+-- the first q + 1 elements are equal where the first q are and the next
+pointwise-more : (q : ℕ) (x y : List ℕ) → q < length x → q < length y
+    → pointwise eqb (take (suc q) x) (take (suc q) y) ≡ (pointwise eqb (take q x) (take q y) && eqb (get_or x q 0) (get_or y q 0))
+pointwise-more zero (a ∷ x) (b ∷ y) h k = and-true (eqb a b)
+pointwise-more (suc q) (a ∷ x) (b ∷ y) h k =
+    ap (λ (c : Bool). eqb a b && c) (pointwise-more q x y (omega arith) (omega arith)) ∙ sym (and_assoc (eqb a b) _ _)
+pointwise-more q [] y h k = absurd (omega arith)
+pointwise-more q (a ∷ x) [] h k = absurd (omega arith)
 
-  -- addresses that differ in a whole byte before the last bits
-  pub inside-off : (bits : ℕ) → q < bits / 8 → (get_or a q 0 ≡ get_or net q 0 → ⊥) → inside a net bits ≡ false
-  inside-off bits h e =
-      let n : inside a net (8 * (q + 1)) ≡ false = inside-byte ∙ rw (ne_eqb (get_or a q 0) (get_or net q 0) e) (and-false (inside a net (8 * q))) in
-      let b : bits ≡ 8 * (q + 1) + (bits - 8 * (q + 1)) = omega arith in
-      ap (inside a net) b ∙ outside a net (8 * (q + 1)) (bits - 8 * (q + 1)) n
+module _ (a net : List ℕ) (ha : (i : ℕ) → get_or a i 0 < 256) (hn : (i : ℕ) → get_or net i 0 < 256) where
+  inside-bytes : (q : ℕ) → q ≤ length a → q ≤ length net → inside a net (8 * q) ≡ pointwise eqb (take q a) (take q net)
+  unfolding inside
+  inside-bytes zero h k = refl
+  inside-bytes (suc q) h k =
+      let e : 8 * suc q ≡ 8 * (q + 1) = omega arith in
+      ap (inside a net) e ∙ inside-byte a net q (ha q) (hn q)
+      ∙ ap (λ (b : Bool). b && eqb (get_or a q 0) (get_or net q 0)) (inside-bytes q (omega arith) (omega arith))
+      ∙ sym (pointwise-more q a net (omega arith) (omega arith))
 
-  -- the bits past the whole bytes decide
-  pub inside-last : (bits : ℕ) → q ≡ bits / 8 → inside a net (8 * q) ≡ true
-      → inside a net bits ≡ eqb (get_or a q 0 / 2 ^ (8 - bits % 8)) (get_or net q 0 / 2 ^ (8 - bits % 8))
-  inside-last bits e h =
+  -- q whole bytes first, of which r tells, then the bits past them
+  pub inside-is : (bits q : ℕ) (r : Bool) → q ≡ bits / 8 → q ≤ length a → q ≤ length net → r ≡ pointwise eqb (take q a) (take q net)
+      → inside a net bits ≡ (r && eqb (get_or a q 0 / 2 ^ (8 - bits % 8)) (get_or net q 0 / 2 ^ (8 - bits % 8)))
+  inside-is bits q r e h k f =
       let b : bits ≡ 8 * q + bits % 8 = omega arith in
-      ap (inside a net) b ∙ inside-bits (bits % 8) (omega arith) ∙ rw h
+      ap (inside a net) b ∙ inside-bits a net q (ha q) (hn q) (bits % 8) (omega arith)
+      ∙ ap (λ (b : Bool). b && eqb (get_or a q 0 / 2 ^ (8 - bits % 8)) (get_or net q 0 / 2 ^ (8 - bits % 8))) (inside-bytes q h k ∙ sym f)

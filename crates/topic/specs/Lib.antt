@@ -1,3 +1,4 @@
 pub mod Subnet
 pub mod Book
 pub mod Admission
+pub mod Held

@@ -1,12 +1,13 @@
 // A whole rule book: byte 0, then entries to the end. A cut entry is found first; after that every entry lies within the book.
-ghost use Rattle.std.specs.Prelude.{◌≡◌, true, ◌<◌, length};
-ghost use Rattle.topic.specs.Book.{entries_from, uncut, all_fit, listed, distinct, well_formed, admits};
+ghost use Rattle.std.specs.Prelude.{◌≡◌, option_map};
+ghost use Rattle.std.specs.Bool.{then_some};
+ghost use Rattle.topic.specs.Book.{book_of, all_fit, listed, distinct, well_formed, admitted};
+ghost use Rattle.topic.specs.Held.{held_entries, held_book};
 
-use crate::entry::{end_at, is_within, subnets_fit, topic_at, whole_at};
-use octets::equal;
+use crate::entry::Entries;
 
 // What a book says of a topic and a source.
-#[derive(Clone, Copy)]
+#[derive(Clone, Copy, Debug, PartialEq, Eq)]
 pub enum Admission {
     // The book is no rule book.
     Malformed,
@@ -16,97 +17,67 @@ pub enum Admission {
     Open,
 }
 
-// Whether no entry is cut.
-fn is_uncut(book: &[u8]) -> bool
-    ensures { result ≡ uncut book.now 1 }
+// A rule book that is well formed.
+#[derive(Clone, Copy)]
+pub struct Book<'a> {
+    // Whether a topic without an entry is open.
+    accepts: bool,
+    entries: Entries<'a>,
+}
+
+// Whether every subnet of the entries has prefix bits to 128.
+fn all_fit(mut entries: Entries) -> bool
+    ensures { result ≡ all_fit (held_entries entries.entry) }
 {
-    let mut at: usize = 1;
-    while at < book.len() {
-        if !whole_at(book, at) {
+    entries.all(|entry| entry.fits())
+}
+
+// Whether one of the entries has the topic.
+fn is_listed(mut entries: Entries, topic: &[u8]) -> bool
+    ensures { result ≡ listed topic.now (held_entries entries.entry) }
+{
+    entries.any(|entry| entry.topic == topic)
+}
+
+// Whether no topic has two entries. Each is compared with all behind it: quadratic in the number of entries.
+#[tactic(auto, unfolding(crate::specs::Book::distinct))]
+fn are_distinct(mut entries: Entries) -> bool
+    ensures { result ≡ distinct (held_entries entries.entry) }
+{
+    while let Some(entry) = entries.next() {
+        if is_listed(entries, entry.topic) {
             return false;
         }
-        at = end_at(book, at);
     }
     true
 }
 
-// Whether every subnet of the book has prefix bits to 128.
-fn prefixes_fit(book: &[u8]) -> bool
-    requires { uncut book.now 1 ≡ true }
-    ensures { result ≡ all_fit (entries_from book.now 1) }
-{
-    let mut at: usize = 1;
-    while at < book.len() {
-        if !subnets_fit(book, at) {
-            return false;
+impl<'a> Book<'a> {
+    // The book that the bytes are, if they are well formed.
+    #[tactic(auto, using(crate::proofs::Rest::books))]
+    pub fn read(bytes: &'a [u8]) -> Option<Book<'a>>
+        ensures { option_map held_book result ≡ then_some (well_formed bytes.now) (book_of bytes.now) }
+    {
+        let (&first, rest) = bytes.split_first()?;
+        if 1 < first {
+            return None;
         }
-        at = end_at(book, at);
+        let entries = Entries::read(rest)?;
+        let formed = all_fit(entries) && are_distinct(entries);
+        formed.then_some(Book {
+            accepts: first == 0,
+            entries,
+        })
     }
-    true
-}
 
-// Whether an entry from `from` on has the topic.
-fn is_listed(book: &[u8], from: usize, topic: &[u8]) -> bool
-    requires { uncut book.now from ≡ true }
-    ensures { result ≡ listed topic.now (entries_from book.now from) }
-{
-    let mut at = from;
-    while at < book.len() {
-        if equal(topic_at(book, at), topic) {
-            return true;
+    // Whether it admits the source to the topic.
+    pub fn admits(&self, topic: &[u8], source: &[u8; 16]) -> bool
+        ensures { result ≡ admitted (held_book self.now) topic.now source.now }
+    {
+        let mut entries = self.entries;
+        match entries.find(|entry| entry.topic == topic) {
+            Some(entry) => entry.admits(source),
+            None => self.accepts,
         }
-        at = end_at(book, at);
     }
-    false
-}
-
-// Whether no topic has two entries. Each entry is compared with all behind it: quadratic in the number of entries.
-fn is_distinct(book: &[u8]) -> bool
-    requires { uncut book.now 1 ≡ true }
-    ensures { result ≡ distinct (entries_from book.now 1) }
-{
-    let mut at: usize = 1;
-    while at < book.len() {
-        let end = end_at(book, at);
-        if is_listed(book, end, topic_at(book, at)) {
-            return false;
-        }
-        at = end;
-    }
-    true
-}
-
-// Whether the book is well formed.
-pub fn well_formed(book: &[u8]) -> bool
-    ensures { result ≡ well_formed book.now }
-{
-    if book.len() == 0 {
-        return false;
-    }
-    if 1 < book[0] {
-        return false;
-    }
-    if !is_uncut(book) {
-        return false;
-    }
-    if !prefixes_fit(book) {
-        return false;
-    }
-    is_distinct(book)
-}
-
-// Whether the book admits the source to the topic.
-pub fn admits(book: &[u8], topic: &[u8], source: &[u8; 16]) -> bool
-    requires { (0 < length book.now) × (uncut book.now 1 ≡ true) }
-    ensures { result ≡ admits book.now topic.now source.now }
-{
-    let mut at: usize = 1;
-    while at < book.len() {
-        if equal(topic_at(book, at), topic) {
-            let held = is_within(book, at, source);
-            return held;
-        }
-        at = end_at(book, at);
-    }
-    book[0] == 0
 }

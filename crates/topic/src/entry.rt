@@ -1,87 +1,101 @@
-// One entry of a rule book, by the place `at` where it starts: topic length (1), topic, subnet count (1), and subnets of
-// 17 bytes, an address (16) and prefix bits (1).
-ghost use Rattle.std.specs.Prelude.{◌≡◌, ◌<◌, ◌≤◌, length, leb};
-ghost use Rattle.topic.specs.Book.{topic_of, count_at, subnets_of, end_at, fits, within};
+// The entries of a rule book, as parts of its bytes: topic length (1), topic, subnet count (1), and subnets of 17 bytes, an
+// address (16) and prefix bits (1).
+ghost use Rattle.std.specs.Prelude.{◌≡◌, true, leb, option_map, length, drop};
+ghost use Rattle.std.specs.Bool.{then_some};
+ghost use Rattle.topic.specs.Book.{entry_at, end_at, entries_from, uncut, fits, within};
 
 use crate::subnet::{ADDRESS_BYTES, PREFIX_MOST, contains};
-use octets::small;
 
 // The bytes of a subnet.
 const SUBNET_BYTES: usize = ADDRESS_BYTES + 1;
 
-// Where the subnet count of the entry at `at` stands.
-pub fn count_at(book: &[u8], at: usize) -> usize
-    requires { at < length book.now }
-    ensures { result ≡ count_at book.now at }
-{
-    at + 1 + small(book[at])
+// A topic, and the subnets that may send to it.
+#[derive(Clone, Copy)]
+pub struct Entry<'a> {
+    pub topic: &'a [u8],
+    subnets: &'a [[u8; SUBNET_BYTES]],
 }
 
-// Where the entry at `at` ends.
-pub fn end_at(book: &[u8], at: usize) -> usize
-    requires { (at < length book.now) × (count_at book.now at < length book.now) }
-    ensures { result ≡ end_at book.now at }
-{
-    let count = count_at(book, at);
-    count + 1 + SUBNET_BYTES * small(book[count])
-}
+impl<'a> Entry<'a> {
+    ghost use Rattle.topic.specs.Held.{held_entry, held_first};
 
-// The topic of the entry at `at`.
-pub fn topic_at(book: &[u8], at: usize) -> &[u8]
-    requires { (at < length book.now) × (count_at book.now at ≤ length book.now) }
-    ensures { result.now ≡ topic_of book.now at }
-{
-    let start = at + 1;
-    let end = count_at(book, at);
-    &book[start..end]
-}
-
-// Whether the entry at `at` ends within the book.
-pub fn whole_at(book: &[u8], at: usize) -> bool
-    requires { at < length book.now }
-    ensures { result ≡ leb (end_at book.now at) (length book.now) }
-{
-    let count = count_at(book, at);
-    if book.len() <= count {
-        return false;
+    // The entry at the front of the bytes and what stands behind it; none where the bytes end before it does.
+    fn split(bytes: &'a [u8]) -> Option<(Entry<'a>, &'a [u8])>
+        ensures { option_map held_first result
+            ≡ then_some (leb (end_at bytes.now 0) (length bytes.now))
+            (entry_at bytes.now 0, drop (end_at bytes.now 0) bytes.now) }
+    {
+        let (&size, rest) = bytes.split_first()?;
+        let (topic, rest) = rest.split_at_checked(usize::from(size))?;
+        let (&count, rest) = rest.split_first()?;
+        let (subnets, rest) = rest.split_at_checked(SUBNET_BYTES * usize::from(count))?;
+        let (subnets, _) = subnets.as_chunks();
+        Some((Entry { topic, subnets }, rest))
     }
-    let end = end_at(book, at);
-    end <= book.len()
+
+    // Whether each subnet has prefix bits to 128.
+    pub fn fits(&self) -> bool
+        ensures { result ≡ fits (held_entry self.now).subnets }
+    {
+        self.subnets
+            .iter()
+            .all(|subnet| subnet[ADDRESS_BYTES] <= PREFIX_MOST)
+    }
+
+    // Whether one of the subnets contains the source.
+    pub fn admits(&self, source: &[u8; 16]) -> bool
+        ensures { result ≡ within source.now (held_entry self.now).subnets }
+    {
+        self.subnets.iter().any(|subnet| contains(
+            &subnet[..ADDRESS_BYTES],
+            subnet[ADDRESS_BYTES],
+            source,
+        ))
+    }
 }
 
-// Whether each subnet of the entry at `at` has prefix bits to 128.
-pub fn subnets_fit(book: &[u8], at: usize) -> bool
-    requires { (at < length book.now) × (end_at book.now at ≤ length book.now) }
-    ensures { result ≡ fits (subnets_of book.now at) }
-{
-    let count = count_at(book, at);
-    let mut o = count + 1;
-    let mut left = small(book[count]);
-    while 0 < left {
-        if PREFIX_MOST < book[o + ADDRESS_BYTES] {
-            return false;
+// Entries, one behind the other, from the first on. The bytes that are left are whole entries to their end. It is copied to
+// go over them again.
+#[derive(Clone, Copy)]
+pub struct Entries<'a> {
+    rest: &'a [u8],
+    ghost whole: { uncut rest.now 0 ≡ true },
+}
+
+impl<'a> Entries<'a> {
+    ghost use Rattle.topic.specs.Held.{held_entries};
+
+    // The entries that the bytes are, if none is cut.
+    #[tactic(auto, using(crate::proofs::Rest::splits))]
+    pub fn read(bytes: &'a [u8]) -> Option<Entries<'a>>
+        ensures { option_map held_entries result ≡ then_some (uncut bytes.now 0) (entries_from bytes.now 0) }
+    {
+        let mut rest = bytes;
+        while let Some((_, behind)) = Entry::split(rest) {
+            rest = behind;
         }
-        o += SUBNET_BYTES;
-        left -= 1;
+        if rest.is_empty() {
+            Some(Entries { rest: bytes })
+        } else {
+            None
+        }
     }
-    true
 }
 
-// Whether one of the subnets of the entry at `at` contains the source.
-pub fn is_within(book: &[u8], at: usize, source: &[u8; 16]) -> bool
-    requires { (at < length book.now) × (end_at book.now at ≤ length book.now) }
-    ensures { result ≡ within source.now (subnets_of book.now at) }
-{
-    let count = count_at(book, at);
-    let mut o = count + 1;
-    let mut left = small(book[count]);
-    while 0 < left {
-        let behind = o + ADDRESS_BYTES;
-        if contains(&book[o..behind], book[behind], source) {
-            return true;
-        }
-        o += SUBNET_BYTES;
-        left -= 1;
+impl<'a> Iterator for Entries<'a> {
+    ghost use Rattle.std.specs.Iterator.{YieldsFirstBy, item_count};
+    ghost use Rattle.topic.specs.Held.{held_entry, held_entries};
+
+    type Item = Entry<'a>;
+
+    ghost next_gives = { YieldsFirstBy held_entry held_entries };
+
+    ghost remaining = { item_count held_entries };
+
+    #[tactic(auto, using(crate::proofs::Rest::splits))]
+    fn next(&mut self) -> Option<Entry<'a>> {
+        let (entry, behind) = Entry::split(self.rest)?;
+        self.rest = behind;
+        Some(entry)
     }
-    false
 }

@@ -8,6 +8,7 @@ pub const ADDRESS_BYTES: usize = 16;
 pub const PREFIX_MOST: u8 = 128;
 
 // Whether two bytes agree in their first `k` bits, one to seven of them.
+#[tactic(auto, using(crate::proofs::Prefix::masked_alike))]
 fn alike(x: u8, y: u8, k: u8) -> bool
     requires { (0 < k) × (k < 8) }
     ensures { result ≡ eqb (x / 2 ^ (8 - k)) (y / 2 ^ (8 - k)) }
@@ -21,19 +22,9 @@ fn agree(a: &[u8], net: &[u8], bits: u8) -> bool
     requires { (length a.now ≡ address_bytes) × (length net.now ≡ address_bytes) × (bits ≤ prefix_most) }
     ensures { result ≡ inside a.now net.now bits }
 {
-    let whole = (bits / 8) as usize;
-    let mut i: usize = 0;
-    while i < whole {
-        if a[i] != net[i] {
-            return false;
-        }
-        i += 1;
-    }
+    let whole = usize::from(bits / 8);
     let rest = bits % 8;
-    if rest == 0 {
-        return true;
-    }
-    alike(a[whole], net[whole], rest)
+    a[..whole] == net[..whole] && (rest == 0 || alike(a[whole], net[whole], rest))
 }
 
 // Whether `source` lies in the subnet of `net` and `bits`. A net that has not 16 bytes, or more than 128 bits, is no subnet
@@ -41,11 +32,5 @@ fn agree(a: &[u8], net: &[u8], bits: u8) -> bool
 pub fn contains(net: &[u8], bits: u8, source: &[u8; 16]) -> bool
     ensures { result ≡ contains_of net.now bits source.now }
 {
-    if net.len() != ADDRESS_BYTES {
-        return false;
-    }
-    if PREFIX_MOST < bits {
-        return false;
-    }
-    agree(source, net, bits)
+    net.len() == ADDRESS_BYTES && bits <= PREFIX_MOST && agree(source, net, bits)
 }

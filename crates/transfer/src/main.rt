@@ -12,11 +12,12 @@ mod whole;
 
 ghost use Rattle.std.specs.Prelude.{◌≤◌};
 
+use answer::Answer;
 use std::io;
 
 // A fresh store.
 fn fresh(rt: &impl Print, store: &mut [u8], role: u64) -> io::Result<()> {
-    let made = message::setup(store, role);
+    let made = Answer::from(message::setup(store, role));
     show::field(rt, b"setup ", role)?;
     show::answer(rt, made)?;
     show::end(rt)

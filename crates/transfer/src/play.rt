@@ -25,7 +25,7 @@ pub(crate) fn arrive(
     let from = read::address(run, a.wrapping_add(2));
     let to = read::address(run, a.wrapping_add(18));
     show::packet(rt, run, a, frame)?;
-    let got = message::packet(recv, send, frame, &from, &to, rules, 1, reply);
+    let got = Answer::from(message::packet(recv, send, frame, &from, &to, rules, 1, reply));
     show::say(rt, b"  packet")?;
     show::answer(rt, got)?;
     show::end(rt)?;
@@ -75,7 +75,7 @@ pub(crate) fn deliver(
 
 // A wake within hours.
 pub(crate) fn wake(send: &mut [u8], kind: u64, id: &[u8; 8], clock: u64, run: &mut [u8]) -> Answer {
-    message::wake(send, kind, id, clock, &ALWAYS, 0, run)
+    message::wake(send, kind, id, clock, &ALWAYS, 0, run).into()
 }
 
 // The tablet wakes from `start` on each 100 ms, until it sends nothing, and at most seven times.
@@ -117,7 +117,7 @@ pub(crate) fn wakes(
 // What the tablet reports on a message.
 pub(crate) fn report(rt: &impl Print, tablet_send: &[u8], id: &[u8; 8]) -> io::Result<()> {
     let mut out = [0u8; 44];
-    let told = message::report(tablet_send, id, &mut out);
+    let told = Answer::from(message::report(tablet_send, id, &mut out));
     show::say(rt, b"report")?;
     show::answer(rt, told)?;
     if told.number == 0 {

@@ -3,6 +3,7 @@
 ghost use Rattle.std.specs.Prelude.{◌≤◌};
 
 use crate::{play, read, show};
+use answer::Answer;
 use std::io;
 
 // The longest message.
@@ -55,7 +56,7 @@ fn take(
 ) -> io::Result<()> {
     let mut taken = [0u8; 32828];
     let mut run = [0u8; 46];
-    let got = message::take(office_recv, &mut taken, &mut run);
+    let got = Answer::from(message::take(office_recv, &mut taken, &mut run));
     show::say(rt, b"take")?;
     show::answer(rt, got)?;
     if got.number != 0 {
@@ -85,7 +86,7 @@ fn push(
 ) -> io::Result<()> {
     let from = TABLET;
     let to = OFFICE;
-    let pushed = message::push(
+    let pushed = Answer::from(message::push(
         tablet_send,
         id,
         reply,
@@ -96,7 +97,7 @@ fn push(
         CREATED,
         TRY,
         run,
-    );
+    ));
     show::say(rt, b"push")?;
     show::answer(rt, pushed)?;
     show::end(rt)?;

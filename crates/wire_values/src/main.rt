@@ -4,70 +4,66 @@
 
 #![tactic(auto)]
 
-use packet::header::Kind;
-use std::io;
+ghost use Rattle.std.specs.Prelude.{◌≡◌, ◌≤◌, length};
 
-const DIGITS: [u8; 16] = *b"0123456789abcdef";
+use packet::header::{FLAG_ABORTED, FLAG_READ, Kind, kind_of};
+use packet::label::labelled;
+use packet::needed;
+use packet::reader::Frame;
+use packet::run::{Position, put_chunk, put_done, put_header, put_init, put_reply};
+use std::{array, io};
 
-// A line end.
-fn line(rt: &impl Print) -> io::Result<()> {
-    rt.write_all(b"\n")
-}
+// Whom the packets go between, and the id of their message.
+const FROM: [u8; 16] = [0xaa; 16];
 
-// The two hexadecimal digits of a byte.
-fn hex(b: u8) -> [u8; 2] {
-    [DIGITS[(b / 16) as usize], DIGITS[(b % 16) as usize]]
-}
+const TO: [u8; 16] = [0xbb; 16];
+
+const ID: [u8; 8] = [1, 2, 3, 4, 5, 6, 7, 8];
 
 // A line with the bytes in hexadecimal.
-fn write_hex(rt: &impl Print, s: &[u8]) -> io::Result<()> {
-    for b in s {
-        rt.write_all(&hex(*b))?;
+fn write_hex(rt: &impl Print, bytes: &[u8]) -> io::Result<()> {
+    for b in bytes {
+        print!(rt; "{b:02x}")?;
     }
-    line(rt)
+    println!(rt)
 }
 
 // A letter for each kind, small for an acknowledgement.
-fn letter(k: Kind) -> u8 {
-    match k {
-        Kind::Init => b'I',
-        Kind::Chunk => b'C',
-        Kind::Done => b'D',
-        Kind::Read => b'R',
-        Kind::Aborted => b'A',
-        Kind::AckInit => b'i',
-        Kind::AckChunk => b'c',
-        Kind::AckDone => b'd',
-        Kind::Nothing => b'.',
+fn letter(kind: Kind) -> char {
+    match kind {
+        Kind::Init => 'I',
+        Kind::Chunk => 'C',
+        Kind::Done => 'D',
+        Kind::Read => 'R',
+        Kind::Aborted => 'A',
+        Kind::AckInit => 'i',
+        Kind::AckChunk => 'c',
+        Kind::AckDone => 'd',
+        Kind::Nothing => '.',
     }
 }
 
 // The kinds of all flag bytes, 32 to a line.
 fn kinds(rt: &impl Print) -> io::Result<()> {
-    for f in 0..=255u8 {
-        rt.write_all(&[letter(packet::header::kind_of(f))])?;
-        if f % 32 == 31 {
-            line(rt)?;
+    for flags in 0..=255u8 {
+        print!(rt; "{}", letter(kind_of(flags)))?;
+        if flags % 32 == 31 {
+            println!(rt)?;
         }
     }
     Ok(())
 }
 
 // The key number k: byte j is 37 k + 11 j.
-fn key(k: usize) -> [u8; 32] {
-    let mut out = [0u8; 32];
-    for j in 0..32 {
-        out[j] = ((37 * (k % 256) + 11 * j) % 256) as u8;
-    }
-    out
+fn key(k: u8) -> [u8; 32] {
+    array::from_fn(|j| ((37 * usize::from(k) + 11 * j) % 256) as u8)
 }
 
 // The addresses of a dozen keys.
 fn addresses(rt: &impl Print) -> io::Result<()> {
     for k in 0..12 {
-        let mut out = [0u8; 16];
-        let of = key(k);
-        address::address(&of, &mut out);
+        let mut out = [0; 16];
+        let _ = address::address(&key(k), &mut out);
         write_hex(rt, &out)?;
     }
     Ok(())
@@ -75,86 +71,65 @@ fn addresses(rt: &impl Print) -> io::Result<()> {
 
 // A frame: byte i is 7 i + 3.
 fn frame() -> [u8; 1400] {
-    let mut out = [0u8; 1400];
-    for i in 0..1400 {
-        out[i] = ((7 * i + 3) % 256) as u8;
-    }
-    out
+    array::from_fn(|i| ((7 * i + 3) % 256) as u8)
 }
 
-// An entry of each kind of packet, written three bytes into a buffer of 0xEE.
+// The entry that `put` writes into so many bytes, which were 0xEE before.
+fn write_entry<F: FnOnce(&mut [u8])>(rt: &impl Print, room: usize, put: F) -> io::Result<()>
+    requires room { room ≤ 320 }
+    requires put { (run : _) → length run.now ≡ room → F.pre put run }
+{
+    let mut run = [0xee; 320];
+    put(&mut run[..room]);
+    write_hex(rt, &run[..room])
+}
+
+// An entry of each kind of packet, three bytes into the buffer.
 fn packets(rt: &impl Print) -> io::Result<()> {
-    let from = [0xaau8; 16];
-    let to = [0xbbu8; 16];
-    let id = [1, 2, 3, 4, 5, 6, 7, 8];
-    let mut run = [0xeeu8; 100];
-    let label = packet::label::labelled(&id, &from, &to, true, 32500);
-    packet::run::put_init(&mut run, 3, label, b"duct");
-    write_hex(rt, &run)?;
-    let mut run = [0xeeu8; 100];
-    let position = packet::run::Position {
+    let label = labelled(&ID, &FROM, &TO, true, 32500);
+    write_entry(rt, 100, |run| put_init(run, 3, label, b"duct"))?;
+    let at = Position {
         index: 24,
         offset: 31200,
     };
-    packet::run::put_chunk(&mut run, 3, &from, &to, &id, position, b"airflow");
-    write_hex(rt, &run)?;
-    let mut run = [0xeeu8; 100];
-    packet::run::put_done(&mut run, 3, &from, &to, &id, 25, &key(1));
-    write_hex(rt, &run)?;
-    let mut run = [0xeeu8; 100];
-    packet::run::put_header(&mut run, 3, &from, &to, &id, packet::header::FLAG_ABORTED);
-    write_hex(rt, &run)?;
-    let mut run = [0xeeu8; 100];
-    packet::run::put_header(&mut run, 3, &from, &to, &id, packet::header::FLAG_READ);
-    write_hex(rt, &run)
-}
-
-// The entry of an init with the longest topic there can be.
-fn longest_topic(rt: &impl Print) -> io::Result<()> {
-    let from = [0xaau8; 16];
-    let to = [0xbbu8; 16];
-    let id = [1, 2, 3, 4, 5, 6, 7, 8];
-    let topic = [0x74u8; 255];
-    let mut run = [0xeeu8; 320];
-    let label = packet::label::labelled(&id, &from, &to, false, 0);
-    packet::run::put_init(&mut run, 3, label, &topic);
-    write_hex(rt, &run)
-}
-
-// The three replies to a frame, and its fields.
-fn replies(rt: &impl Print) -> io::Result<()> {
-    let from = [0xaau8; 16];
-    let to = [0xbbu8; 16];
-    let f = frame();
-    let mut run = [0xeeu8; 100];
-    packet::run::put_reply(&mut run, 3, &from, &to, &f, 21);
-    write_hex(rt, &run)?;
-    let mut run = [0xeeu8; 100];
-    packet::run::put_reply(&mut run, 3, &from, &to, &f, 36);
-    write_hex(rt, &run)?;
-    let mut run = [0xeeu8; 100];
-    packet::run::put_reply(&mut run, 3, &from, &to, &f, 52);
-    write_hex(rt, &run)
-}
-
-// The topic that a frame gives as an init, if all of it came.
-fn topic(rt: &impl Print, frame: &[u8]) -> io::Result<()> {
-    if packet::init::MessageInit::came(frame) {
-        write_hex(rt, packet::reader::topic(frame))?;
+    let piece = b"airflow";
+    write_entry(rt, 100, |run| put_chunk(run, 3, &FROM, &TO, &ID, at, piece))?;
+    let sum = key(1);
+    write_entry(rt, 100, |run| put_done(run, 3, &FROM, &TO, &ID, 25, &sum))?;
+    for flags in [FLAG_ABORTED, FLAG_READ] {
+        write_entry(rt, 100, |run| put_header(run, 3, &FROM, &TO, &ID, flags))?;
     }
     Ok(())
 }
 
-// The fields that a frame gives as each kind of packet.
-fn fields(rt: &impl Print) -> io::Result<()> {
+// The entry of an init with the longest topic there can be.
+fn longest_topic(rt: &impl Print) -> io::Result<()> {
+    let label = labelled(&ID, &FROM, &TO, false, 0);
+    write_entry(rt, 320, |run| put_init(run, 3, label, &[0x74; 255]))
+}
+
+// The three replies to a frame.
+fn replies(rt: &impl Print) -> io::Result<()> {
     let f = frame();
-    write_hex(rt, packet::reader::id(&f))?;
-    rt.println(packet::reader::length(&f))?;
-    topic(rt, &f)?;
-    rt.println(packet::reader::index(&f))?;
-    rt.println(packet::reader::offset(&f))?;
-    rt.println(packet::reader::size(&f))?;
-    write_hex(rt, packet::reader::sum(&f))
+    for n in [21, 36, 52] {
+        write_entry(rt, 100, |run| put_reply(run, 3, &FROM, &TO, &f, n))?;
+    }
+    Ok(())
+}
+
+// The fields that a frame gives as each kind of packet: its topic if all of it came.
+fn fields(rt: &impl Print) -> io::Result<()> {
+    let bytes = frame();
+    let frame = Frame::new(&bytes);
+    write_hex(rt, frame.id())?;
+    println!(rt; "{}", frame.length())?;
+    if needed::is_enough(Kind::Init, &bytes) {
+        write_hex(rt, frame.topic())?;
+    }
+    println!(rt; "{}", frame.index())?;
+    println!(rt; "{}", frame.offset())?;
+    println!(rt; "{}", frame.size())?;
+    write_hex(rt, frame.sum())
 }
 
 fn main(rt: HostRuntime) -> io::Result<()> {

@@ -1,29 +1,16 @@
--- The refusal by its test; past it the lines fill what the text takes. Assumes nothing.
-use native.Mathlib.Omega.{arith}
-use mathlib.Core.Path.{sym, ◌∙◌}
-use borrow.Author.Rules.{rules}
-use Rattle.cutter.proofs.Listed.{some-units, room-all, refused, listed}
+-- What is read is a length, and the lines fill what the text takes; or it is refused. Assumes nothing.
+use Rattle.std.proofs.Common.{rules, refl, sym, ◌∙◌}
+use Rattle.cutter.proofs.Listed.{room-all, refused, listed}
 use Rattle.cutter.proofs.list.Goals as goal
 
-pub returns-then-not-is_length : goal.returns-then-not-is_length
-returns-then-not-is_length c =
-    let tested = c in
-    refused _ _ _ tested.one_number-total.ensures (sym tested.is_length.ensures ∙ c.if-not-is_length.true) c.refuse.ensures
+pub put_cuts-requires : goal.put_cuts-requires
+put_cuts-requires c = room-all _ (sym c.is_length.ensures ∙ c.if-is_length.true) _ (search rules)
 
-pub overflow_sub-total : goal.overflow_sub-total
-overflow_sub-total c =
-    let past = c in
-    let tested = past in
-    omega (arith, some-units tested.one_number-total.result (sym tested.is_length.ensures ∙ past.if-not-is_length.false))
+pub returns-in-Some : goal.returns-in-Some
+returns-in-Some c = listed _ _ _ c.in-Some.ensures.value (sym c.is_length.ensures ∙ c.if-is_length.true) c.put_cuts.ensures refl
 
-pub put_cuts-end-requires : goal.put_cuts-end-requires
-put_cuts-end-requires c =
-    let past = c in
-    room-all _ (sym past.is_length.ensures ∙ past.if-not-is_length.false) _ (search rules)
+pub returns-in_default : goal.returns-in_default
+returns-in_default c = refused _ _ _ c.in-Some.ensures.value (sym c.is_length.ensures ∙ c.if-is_length.false) refl
 
-pub returns : goal.returns
-returns c =
-    let past = c in
-    let tested = past in
-    listed _ _ _ tested.one_number-total.ensures (sym tested.is_length.ensures ∙ past.if-not-is_length.false)
-    c.put_cuts-end.ensures c.sent.ensures
+pub returns-in_default-2 : goal.returns-in_default-2
+returns-in_default-2 c = refused _ _ _ c.in_default.ensures.value refl refl

@@ -1,18 +1,13 @@
-use mathlib.Core.Path.{refl, sym}
-use native.Mathlib.Omega.{arith}
-use lib.ListN.{length-set}
-use Rattle.octets.specs.PartsLaws.{put-nil}
-use Rattle.octets.proofs.Loops.{fill_more, fill-all}
+-- Assumes nothing.
+use Rattle.std.proofs.Common.{arith, ap, ◌∙◌, ◌+◌, length, replicate}
+use Rattle.std.proofs.lemmas.List.{length-replicate}
+use Rattle.octets.specs.PartsLaws.{length_part, part_of}
+use Rattle.octets.proofs.Loops.{put_is}
 use Rattle.octets.proofs.fill.Goals as goal
 
-pub loop-i-init : goal.loop-i-init
-loop-i-init c = (omega arith, refl, sym (put-nil _ _))
-
-pub loop-i-preserved : goal.loop-i-preserved
-loop-i-preserved c = (omega arith, simp length-set (omega arith), fill_more _ _ _ _ _ (omega arith) c.before.loop-i.invariant.2)
-
-pub shape_of-d : goal.shape_of-d
-shape_of-d c = c.before.loop-i.invariant.1
-
 pub returns : goal.returns
-returns c = fill-all _ _ _ _ _ _ c.before.loop-i.invariant.0 c.loop-i-test.false c.before.loop-i.invariant.2
+returns c =
+    let a = c.args in
+    let e = part_of a.d.now a.a (a.a + a.n) a.n (omega arith) in
+    put_is _ _ _ _ _ (c.fill.ensures.after (λ y e. e) ∙ ap (λ l. replicate (length l) a.v) e ∙ ap (λ n. replicate n a.v) (length_part _ _ _ c.requires))
+    (omega (arith, length-replicate a.n a.v))

@@ -1,12 +1,14 @@
-use native.Mathlib.Omega.{arith}
-use Rattle.octets.proofs.Loops.{zeros-none, zeros-more, zeros-all}
+-- Assumes nothing.
+use Rattle.std.proofs.Common.{arith, ap, ◌∙◌, ◌+◌, take_all}
+use Rattle.octets.specs.Octets.{zeros}
+use Rattle.octets.specs.PartsLaws.{part_of}
+use Rattle.octets.proofs.Loops.{zeros_more}
 use Rattle.octets.proofs.zero_part.Goals as goal
 
-pub loop-i-init : goal.loop-i-init
-loop-i-init c = (omega arith, zeros-none _ _)
-
-pub loop-i-preserved : goal.loop-i-preserved
-loop-i-preserved c = (omega arith, zeros-more _ _ _ c.before.before.loop-i.acc (omega arith) c.before.before.loop-i.invariant.1)
+pub loop-x-preserved : goal.loop-x-preserved
+loop-x-preserved c = zeros_more _ _ _ c.loop-x-test.true c.loop-x.invariant
 
 pub returns : goal.returns
-returns c = zeros-all _ _ _ _ _ c.before.loop-i.invariant.0 c.loop-i-test.false c.before.loop-i.invariant.1
+returns c =
+    let a = c.args in
+    c.loop-x.invariant ∙ ap zeros (take_all _ _ c.loop-x-test.false ∙ part_of a.s.now a.a (a.a + a.n) a.n (omega arith))

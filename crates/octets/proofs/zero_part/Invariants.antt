@@ -1,12 +1,7 @@
--- The invariant: acc is 0 just where the first i bytes of the part are. Assumes nothing.
-use Prim.Native.Nat.{◌≤◌, ◌-◌}
-use mathlib.Core.Path.{◌≡◌}
-use lib.Dec.{eqb}
-use Rattle.octets.specs.Octets.{part, zeros}
+-- The or of the bytes read is zero just where they are. Assumes nothing.
+use Rattle.std.proofs.Common.{◌≡◌, take, nat_eq}
+use Rattle.octets.specs.Octets.{zeros}
 use Rattle.octets.proofs.zero_part.Given as goal
 
-abbrev pub invariant-loop-i : goal.invariant-loop-i
-invariant-loop-i l = (l.i ≤ l.n) × (eqb l.acc 0 ≡ zeros (part l.s l.a l.i))
-
-abbrev pub decreases-loop-i : goal.decreases-loop-i
-decreases-loop-i l = l.n - l.i
+abbrev pub invariant-loop-x : goal.invariant-loop-x
+invariant-loop-x l = nat_eq l.acc 0 ≡ zeros (take l.x-index l.x-items)

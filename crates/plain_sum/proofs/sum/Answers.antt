@@ -3,18 +3,7 @@ use Rattle.std.proofs.Common.{arith}
 use Rattle.plain_sum.proofs.Start.{line_of}
 use Rattle.plain_sum.proofs.sum.Goals as goal
 
-pub returns-clause-value : goal.returns-clause-value
-returns-clause-value g c =
-    line_of
-    (g.R.Read.remaining c.args.input)
-    65537
-    c.write.result
-    c.in_ok-bytes.bytes.items
-    c.deref.result.now
-    c.args.line.now
-    c.write.new.out
-    c.in_ok-bytes.ensures
-    (omega arith)
-    c.deref.ensures.value
-    c.write.ensures.0
-    c.write.ensures.2
+pub returns : goal.returns
+returns g c =
+    line_of (g.R.Read.remaining c.args.input) 65537 c.in_ok-bytes.bytes.items c.deref.result.now _ c.in_ok-bytes.ensures (omega arith)
+    c.deref.ensures.value c.line.ensures

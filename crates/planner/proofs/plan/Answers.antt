@@ -16,11 +16,11 @@ use Rattle.planner.proofs.plan.Goals as goal
 
 pub returns-then-out-lt-ROOM : goal.returns-then-out-lt-ROOM
 unfolding plan_of refusal
-returns-then-out-lt-ROOM c = rw (lt-leb 60 _ c.if-out-lt-ROOM.true, c.refuse.ensures)
+returns-then-out-lt-ROOM c = rw (lt-leb 60 _ c.if-out-lt-ROOM.true)
 
 pub returns-then-total-gt-LONGEST : goal.returns-then-total-gt-LONGEST
 unfolding plan_of refusal
-returns-then-total-gt-LONGEST c = rw (le-leb 60 _ c.if-out-lt-ROOM.false, lt-leb _ 32500 c.if-total-gt-LONGEST.true, c.refuse-then-total-gt-LONGEST.ensures)
+returns-then-total-gt-LONGEST c = rw (le-leb 60 _ c.if-out-lt-ROOM.false, lt-leb _ 32500 c.if-total-gt-LONGEST.true)
 
 pub returns-then-not-has_list : goal.returns-then-not-has_list
 unfolding plan_of refusal
@@ -29,7 +29,7 @@ returns-then-not-has_list c =
     let short : a.total ≤ 32500 = c.if-total-gt-LONGEST.false in
     let none : plannable a.total a.count ≡ false = sym c.has_list.ensures ∙ c.if-not-has_list.true in
     let room = le-leb 60 _ c.if-out-lt-ROOM.false in
-    rw (room, le-leb a.total 32500 short, plan-is a.total a.count short, none, c.refuse-then-not-has_list.ensures)
+    rw (room, le-leb a.total 32500 short, plan-is a.total a.count short, none)
 
 -- there is a list: at most 30 sizes
 pub write_sizes-requires : goal.write_sizes-requires
@@ -38,8 +38,8 @@ write_sizes-requires c =
     let some : plannable a.total a.count ≡ true = sym c.has_list.ensures ∙ c.if-not-has_list.false in
     omega (arith, (plannable-facts a.total a.count some).1, c.if-out-lt-ROOM.false)
 
-pub overflow_mul-count : goal.overflow_mul-count
-overflow_mul-count c =
+pub overflow_mul-result : goal.overflow_mul-result
+overflow_mul-result c =
     let tested = c in
     let a = tested.args in
     let some : plannable a.total a.count ≡ true = sym tested.has_list.ensures ∙ tested.if-not-has_list.false in
@@ -58,4 +58,4 @@ returns c =
     length-words (planned a.count a.total) ∙ ap (λ n. 2 * n) (length-planned a.count a.total) in
     let room = le-leb 60 _ tested.if-out-lt-ROOM.false in
     let plan = plan-is a.total a.count short in
-    rw (room, le-leb a.total 32500 short, plan, some, bytes, written.write_sizes.ensures, c.sent.ensures)
+    rw (room, le-leb a.total 32500 short, plan, some, bytes, written.write_sizes.ensures)

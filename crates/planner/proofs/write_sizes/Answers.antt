@@ -1,4 +1,4 @@
-use Prim.Native.Nat.{◌-◌, min}
+use Prim.Native.Nat.{min}
 use native.Mathlib.Numerals.{add-one}
 use native.Mathlib.Omega.{arith}
 use mathlib.Core.Path.{◌≡◌, refl, sym, ap, ◌∙◌}
@@ -20,13 +20,13 @@ loop-i-preserved c =
     let sized = c in
     let loop = sized.loop-i in
     let total = sized.args.total in
-    let size = sized.next_size-size.result in
-    let written = c.put16.ensures in (
+    let size = sized.min-size.result in
+    let written = c.write.ensures in (
       omega arith,
       ap length written ∙ length-put _ _ _ (omega (arith, length-be 2 size)) ∙ loop.invariant.1,
       omega arith,
       rw add-one
-          (write-more loop.i total size _ _ _ (sized.next_size-size.ensures ∙ ap (min largest_piece) loop.invariant.2) (omega arith) loop.invariant.3 written),
+          (write-more loop.i total size _ _ _ (sized.min-size.ensures ∙ ap (min largest_piece) loop.invariant.2) (omega arith) loop.invariant.3 written),
     )
 
 pub shape_of-out : goal.shape_of-out

@@ -12,6 +12,3 @@ abbrev pub invariant-loop-i : goal.invariant-loop-i
 invariant-loop-i l =
     (l.i ≤ l.count) × (length l.out ≡ length l.initial.out) × (l.left ≡ l.total - largest_piece * l.i) ×
     (l.out ≡ put l.initial.out 0 (words (planned l.i l.total)))
-
-abbrev pub decreases-loop-i : goal.decreases-loop-i
-decreases-loop-i l = l.count - l.i

@@ -1,4 +1,3 @@
--- Assumes nothing.
 use Prim.Native.Nat.{ℕ, ◌+◌, ◌-◌}
 use mathlib.Core.Path.{◌≡◌, sym, ap, ◌∙◌}
 use mathlib.Core.Bool.{◌&&◌}
@@ -8,6 +7,8 @@ use Rattle.octets.specs.Octets.{part, zeros}
 use Rattle.octets.specs.PartsLaws.{part-add}
 use Rattle.octets.specs.CompareLaws.{zeros-append}
 use Rattle.rows.proofs.free.Goals as goal
+
+-- Assumes nothing.
 
 -- what stands behind the link of a row of 1 + n + m bytes, in two parts
 in_two : (row : List ℕ) (n m : ℕ) → length row - 1 ≡ n + m → (zeros (part row 1 n) && zeros (part row (1 + n) m)) ≡ zeros (part row 1 (length row - 1))
@@ -24,6 +25,3 @@ returns-then-row-eq-BYTES-2 c =
     let record-row = c in
     (λ i. c.zero_part-then-row-eq-BYTES-2.ensures i && c.zero_part-then-row-eq-BYTES-2-2.ensures i)
     ∙ in_two record-row.args.row.now 7 320 (ap (λ (n : ℕ). n - 1) record-row.if-row-eq-BYTES-2.true)
-
-pub returns : goal.returns
-returns c = c.zero_part-2.ensures

@@ -1,5 +1,4 @@
 -- `blake3::lanes::begin` meets its contract: the lanes below j have begun. Assumes nothing.
-use Rattle.std.proofs.Common.{◌-◌, ◌≤◌}
 use Rattle.blake3.specs.Compression.{start}
 use Rattle.blake3.specs.Lanes.{lane}
 use Rattle.blake3.specs.FourChunks.{lane_node}
@@ -8,9 +7,5 @@ use Rattle.blake3.proofs.lanes.begin.Given as goal
 
 abbrev pub invariant-loop-j : goal.invariant-loop-j
 invariant-loop-j l =
-    (l.j ≤ 4)
-    × Until 16 (λ k. start (lane_node l.s l.c l.i l.f l.h k)) (λ k. lane 16 k l.initial.v) l.v l.j
+    Until 16 (λ k. start (lane_node l.s l.c l.i l.f l.h k)) (λ k. lane 16 k l.initial.v) l.v l.j
     × Until 16 (λ k. (lane_node l.s l.c l.i l.f l.h k).block) (λ k. lane 16 k l.initial.m) l.m l.j
-
-abbrev pub decreases-loop-j : goal.decreases-loop-j
-decreases-loop-j l = 4 - l.j

@@ -1,5 +1,4 @@
 -- `blake3::lanes::end` meets its contract: the lanes below j are those of the end. Assumes nothing.
-use Rattle.std.proofs.Common.{◌-◌, ◌≤◌}
 use Rattle.blake3.specs.Words.{first}
 use Rattle.blake3.specs.Compression.{finish}
 use Rattle.blake3.specs.Lanes.{lane}
@@ -7,7 +6,5 @@ use Rattle.blake3.proofs.LaneLaws.{Until}
 use Rattle.blake3.proofs.lanes.end.Given as goal
 
 abbrev pub invariant-loop-j : goal.invariant-loop-j
-invariant-loop-j l = (l.j ≤ 4) × Until 8 (λ i. first 8 (finish (lane 16 i l.v) (lane 8 i l.initial.h))) (λ i. lane 8 i l.initial.h) l.h l.j
-
-abbrev pub decreases-loop-j : goal.decreases-loop-j
-decreases-loop-j l = 4 - l.j
+invariant-loop-j l =
+    Until 8 (λ i. first 8 (finish (lane 16 i l.v) (lane 8 i l.initial.h))) (λ i. lane 8 i l.initial.h) l.h l.j

@@ -1,5 +1,5 @@
--- `blake3::lanes::round` meets its contract: the lanes below j are rounded, the others as they were. Assumes nothing.
-use Rattle.std.proofs.Common.{◌-◌, ◌≤◌}
+-- `blake3::lanes::round` meets its contract: the lanes below j are rounded, the others as they were.
+-- Assumes nothing.
 use Rattle.blake3.specs.Rounds.{round, permute}
 use Rattle.blake3.specs.Lanes.{lane}
 use Rattle.blake3.proofs.LaneLaws.{Until}
@@ -7,8 +7,5 @@ use Rattle.blake3.proofs.lanes.round.Given as goal
 
 abbrev pub invariant-loop-j : goal.invariant-loop-j
 invariant-loop-j l =
-    (l.j ≤ 4) × Until 16 (λ i. round (lane 16 i l.initial.v) (lane 16 i l.initial.m)) (λ i. lane 16 i l.initial.v) l.v l.j × Until 16
-    (λ i. permute (lane 16 i l.initial.m)) (λ i. lane 16 i l.initial.m) l.m l.j
-
-abbrev pub decreases-loop-j : goal.decreases-loop-j
-decreases-loop-j l = 4 - l.j
+    Until 16 (λ i. round (lane 16 i l.initial.v) (lane 16 i l.initial.m)) (λ i. lane 16 i l.initial.v) l.v l.j
+    × Until 16 (λ i. permute (lane 16 i l.initial.m)) (λ i. lane 16 i l.initial.m) l.m l.j

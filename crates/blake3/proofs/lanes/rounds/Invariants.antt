@@ -1,13 +1,12 @@
--- `blake3::lanes::rounds` meets its contract: the rounds that are left, from where the loop is, give the seven from the start. Assumes nothing.
-use Rattle.std.proofs.Common.{◌≡◌, ℕ, ◌-◌, ◌<◌, ◌≤◌}
+-- `blake3::lanes::rounds` meets its contract: the rounds that are left, from where the loop is, give the seven from
+-- the start. Assumes nothing.
+use Rattle.std.proofs.Common.{◌≡◌, ℕ, ◌-◌, ◌<◌}
 use Rattle.blake3.specs.Rounds.{rounds}
 use Rattle.blake3.specs.Lanes.{lane, Lanes}
 use Rattle.blake3.proofs.lanes.rounds.Given as goal
 
-abbrev pub invariant-loop-i : goal.invariant-loop-i
-invariant-loop-i l =
-    (l.i ≤ 7) × Lanes 16 l.v × Lanes 16 l.m
-    × ((k : ℕ) → k < 4 → rounds (7 - l.i) (lane 16 k l.v) (lane 16 k l.m) ≡ rounds 7 (lane 16 k l.initial.v) (lane 16 k l.initial.m))
-
-abbrev pub decreases-loop-i : goal.decreases-loop-i
-decreases-loop-i l = 7 - l.i
+abbrev pub invariant-loop : goal.invariant-loop
+invariant-loop l =
+    Lanes 16 l.v × Lanes 16 l.m
+    × ((k : ℕ) → k < 4 → rounds (7 - l.counter) (lane 16 k l.v) (lane 16 k l.m)
+    ≡ rounds 7 (lane 16 k l.initial.v) (lane 16 k l.initial.m))

@@ -1,15 +1,10 @@
--- `blake3::lanes::whole_chunks` meets its contract: each lane is carried to its chunk's last block, and over it. Assumes nothing.
+-- `blake3::lanes::whole_chunks` meets its contract: each lane is carried to its chunk's last block, and over it.
+-- Assumes nothing.
 use Rattle.std.proofs.Common.{◌+◌, ◌∙◌, arith, length-drop}
 use Rattle.blake3.specs.Words.{word}
 use Rattle.blake3.specs.FourChunks.{from}
 use Rattle.blake3.proofs.FourLaws.{whole}
 use Rattle.blake3.proofs.lanes.whole_chunks.Goals as goal
-
-pub blocks-requires : goal.blocks-requires
-blocks-requires c = let p = c.requires in (p.0, (λ j q. omega (arith, p.1.0 j q), p.1.1), p.2)
-
-pub step-requires : goal.step-requires
-step-requires c = (c.requires.1, c.blocks-2.ensures.0)
 
 pub returns : goal.returns
 returns c =
@@ -19,6 +14,7 @@ returns c =
     let r = c.step.ensures in (
       r.0,
       λ j q key y. r.1 j q
-          ∙ whole key g.c.mode (from s g.c j) (g.c.first + j) (omega (arith, p.1.0 j q, length-drop (word g.c.at j) s))
+          ∙ whole key g.c.mode (from s g.c j) (g.c.first + j)
+          (omega (arith, p.1.0 j q, length-drop (word g.c.at j) s))
           (c.blocks-2.ensures.1 j q key y),
     )

@@ -1,30 +1,28 @@
-use Rattle.std.proofs.Common.{◌-◌, ◌%◌, length, refl, ap, ◌∙◌, arith, rules}
-use Rattle.blake3.specs.Tree.{block_len, bytes}
-use Rattle.blake3.proofs.FillLaws.{block-all, filled_none, filled_more, filled-all, filled-rest}
+use Rattle.std.proofs.Common.{◌≡◌, ℕ, ◌/◌, length, subst, arith}
+use Rattle.blake3.specs.Tree.{block_len}
+use Rattle.blake3.proofs.FillLaws.{Filled, filled_none, filled_more, filled-all, filled-rest}
 use Rattle.blake3.proofs.output.fill.Goals as goal
 
 pub loop-i-init : goal.loop-i-init
-loop-i-init c = (search rules, (refl, filled_none _ _))
+loop-i-init c = filled_none c.args.n.now _
 
 pub loop-i-preserved : goal.loop-i-preserved
 loop-i-preserved c =
-    let written = c in
-    let made = written in
-    let l = made.loop-i in
-    (search rules, filled_more _ _ l.i l.invariant.1 (ap (bytes block_len) made.root_block.ensures) written.put_block.ensures (omega arith))
-
-pub returns-then-rest-eq0 : goal.returns-then-rest-eq0
-returns-then-rest-eq0 c =
     let l = c.loop-i in
-    filled-all _ _ l.i l.invariant.1 (omega arith)
+    filled_more _ _ l.i l.invariant c.block.ensures c.copy_in.ensures (omega arith)
 
-pub returns : goal.returns
-returns c =
-    let written = c in
-    let block = written in
-    let made = block in
-    let loop = made in
-    let l = loop.loop-i in
-    let bytes-are = block-all _ _ refl block.put_block-2.ensures ∙ ap (bytes block_len) made.root_block-2.ensures in
-    let rest = length loop.args.out.now % block_len - 0 in
-    filled-rest _ _ l.i l.invariant.1 rest bytes-are written.copy_in.ensures (omega arith) (omega arith)
+pub returns-then-rest-gt0 : goal.returns-then-rest-gt0
+returns-then-rest-gt0 c =
+    let l = c.loop-i in
+    let r = c.args.n.now in
+    let out = c.args.out.now in
+    let whole = length out / block_len in
+    let e : l.i ≡ whole = omega arith in
+    let so_far = subst (λ (i : ℕ). Filled r out i l.out) e l.invariant in
+    filled-rest r out whole so_far _ c.block-then-rest-gt0.ensures c.copy_in-then-rest-gt0.ensures
+    (omega arith) (omega arith)
+
+pub returns-else-rest-gt0 : goal.returns-else-rest-gt0
+returns-else-rest-gt0 c =
+    let l = c.loop-i in
+    filled-all _ _ l.i l.invariant (omega arith)

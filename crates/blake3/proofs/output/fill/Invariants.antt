@@ -1,10 +1,7 @@
--- `blake3::output::fill` meets its contract: the first i blocks are written, then what is left of the next. Assumes nothing.
-use Rattle.std.proofs.Common.{◌-◌, ◌≤◌}
+-- `blake3::output::fill` meets its contract: the first i blocks are written, then what is left of the next.
+-- Assumes nothing.
 use Rattle.blake3.proofs.FillLaws.{Filled}
 use Rattle.blake3.proofs.output.fill.Given as goal
 
 abbrev pub invariant-loop-i : goal.invariant-loop-i
-invariant-loop-i l = (l.i ≤ l.whole) × Filled l.n l.initial.out l.i l.out
-
-abbrev pub decreases-loop-i : goal.decreases-loop-i
-decreases-loop-i l = l.whole - l.i
+invariant-loop-i l = Filled l.n l.initial.out l.i l.out

@@ -1,20 +1,8 @@
-use Rattle.std.proofs.Common.{refl, arith, length-set, rules}
-use Rattle.blake3.specs.Tree.{block_at}
-use Rattle.blake3.proofs.Laws.{word_of, fill, filled}
+-- `blake3::tree::block_at` meets its contract: a block that is cut is filled up with zeros. Assumes nothing.
+use Rattle.std.proofs.Common.{◌∙◌, arith}
+use Rattle.blake3.proofs.BlockLaws.{block_filled}
 use Rattle.blake3.proofs.tree.block_at.Goals as goal
 
-pub loop-k-init : goal.loop-k-init
-loop-k-init c = (search rules, search rules, refl)
-
-pub loop-k-preserved : goal.loop-k-preserved
-loop-k-preserved c =
-    let l = c.loop-k in
-    let g = c.args in
-    (search rules, simp length-set l.invariant.1, fill (word_of g.s.now g.i) 16 l.m l.k l.invariant.1 l.invariant.2 _ (omega arith) c.word_at.ensures)
-
 pub returns : goal.returns
-unfolding block_at
 returns c =
-    let l = c.loop-k in
-    let g = c.args in
-    filled (word_of g.s.now g.i) 16 l.m l.k l.invariant.1 l.invariant.2 (omega arith)
+    c.whole_block-2.ensures ∙ block_filled c.args.s.now c.args.i _ (omega arith) c.copy_from_slice.ensures.after

@@ -8,7 +8,8 @@ use Rattle.blake3.proofs.tree.one_block.Goals as goal
 pub returns : goal.returns
 unfolding before
 returns c =
-    let start = c in
-    let g = start.args in
-    c.last_node.ensures ∙ ended g.key g.mode g.s.now 0 0 (omega arith) (omega arith) refl
-    ∙ sym (node-chunk g.key g.mode g.s.now 0 (omega (arith, start.requires)))
+    let g = c.args in
+    let m = g.mode.now in
+    let s = g.s.now in
+    c.last_node.ensures ∙ ended m.key m.flags s 0 0 (omega arith) (omega arith) refl
+    ∙ sym (node-chunk m.key m.flags s 0 (omega arith))

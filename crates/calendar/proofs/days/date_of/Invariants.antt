@@ -2,8 +2,5 @@
 use Rattle.calendar.proofs.Computed.{Spot}
 use Rattle.calendar.proofs.days.date_of.Given as goal
 
-abbrev pub invariant-loop-left : goal.invariant-loop-left
-invariant-loop-left l = Spot l.day l.year l.month l.left
-
-abbrev pub decreases-loop-left : goal.decreases-loop-left
-decreases-loop-left l = l.left
+abbrev pub invariant-loop-month : goal.invariant-loop-month
+invariant-loop-month l = Spot l.day l.year l.month l.left

@@ -2,14 +2,13 @@
 -- Assumes nothing.
 use Rattle.std.proofs.Common.{arith, refl, sym}
 use lib.Seq.{length-take-le}
-use Rattle.cutter.proofs.FrontsLaws.{size-range, wrote_as, growing-none, room-line, front-short, longer-within}
+use Rattle.cutter.proofs.FrontsLaws.{wrote_as, growing-none, room-line, front-short, longer-within}
 use Rattle.cutter.proofs.FrontsLaws.{room-first, room-second, wrote-last, wrote-both}
 use Rattle.cutter.proofs.lines.+put_cuts.Goals as goal
 
 pub put_behind-requires : goal.put_behind-requires
 put_behind-requires t c =
-    let z = size-range c.args.size c.requires.sized in
-    (z.0, z.1, room-line c.requires c.if-left-eq0.true)
+    room-line c.requires c.if-left-eq0.true
 
 pub returns-then-left-eq0 : goal.returns-then-left-eq0
 returns-then-left-eq0 t c =
@@ -18,8 +17,7 @@ returns-then-left-eq0 t c =
 
 pub put_behind-n-requires : goal.put_behind-n-requires
 put_behind-n-requires t c =
-    let z = size-range c.args.size c.requires.sized in
-    (z.0, z.1, omega (arith, front-short c.requires c.if-left-eq0.false))
+    omega (arith, front-short c.requires c.if-left-eq0.false)
 
 pub slice_bounds-longer-end : goal.slice_bounds-longer-end
 slice_bounds-longer-end t c = longer-within c.requires c.if-left-eq0.false c.put_behind-n.ensures refl

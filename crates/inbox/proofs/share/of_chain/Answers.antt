@@ -16,18 +16,18 @@ pub returns-then-place-eq0 : goal.returns-then-place-eq0
 returns-then-place-eq0 c =
     let small = c in
     let inv = small.loop-n.invariant in
-    (sum-end inv small.small-place.ensures.0 c.if-place-eq0.true, sum-small inv)
+    (sum-end inv small.from-place.ensures c.if-place-eq0.true, sum-small inv)
 
-pub of_record-more-requires : goal.of_record-more-requires
-of_record-more-requires c =
+pub of_record-sum-requires : goal.of_record-sum-requires
+of_record-sum-requires c =
     let small = c in
     let links = small.requires.0 in
-    (links, reached links small.loop-n.invariant.within (λ e. c.if-place-eq0.false (small.small-place.ensures.0 ∙ e)))
+    (links, reached links small.loop-n.invariant.within (λ e. c.if-place-eq0.false (small.from-place.ensures ∙ e)))
 
 pub record_at-here-requires : goal.record_at-here-requires
 record_at-here-requires c =
     let some = c in
-    let place = some.small-place.ensures.0 in
+    let place = some.from-place.ensures in
     (omega (arith, some.if-place-eq0.false), omega (arith, some.loop-n.invariant.within.small))
 
 pub loop-n-preserved : goal.loop-n-preserved
@@ -35,10 +35,10 @@ loop-n-preserved c =
     let some = c in
     let small = some in
     let l = small in
-    let place = small.small-place.ensures.0 in
+    let place = small.from-place.ensures in
     sum_more l.loop-n.invariant place (omega arith) some.if-place-eq0.false c.record_at-here.ensures
-    (l.requires.0.recs small.small-place.result (omega (arith, some.if-place-eq0.false))
-    (omega (arith, l.loop-n.invariant.within.small))) c.of_record-more.ensures
+    (l.requires.0.recs small.from-place.result (omega (arith, some.if-place-eq0.false))
+    (omega (arith, l.loop-n.invariant.within.small))) c.of_record-sum.ensures
 
 pub returns : goal.returns
 returns c = let inv = c.loop-n.invariant in (sum-out inv c.loop-n-test.false, sum-small inv)

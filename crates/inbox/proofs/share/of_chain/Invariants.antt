@@ -6,6 +6,3 @@ use Rattle.inbox.proofs.share.of_chain.Given as goal
 
 abbrev pub invariant-loop-n : goal.invariant-loop-n
 invariant-loop-n l = Summing l.source l.recv l.link l.here l.sum l.n
-
-abbrev pub decreases-loop-n : goal.decreases-loop-n
-decreases-loop-n l = suc rec_count - l.n

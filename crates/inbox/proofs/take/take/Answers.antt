@@ -57,7 +57,7 @@ bounds-recv-2 c =
 pub returns-then-recv-eq0 : goal.returns-then-recv-eq0
 returns-then-recv-eq0 c =
     let e : row (goal.at.returns-then-recv-eq0 c).Start ≡ 23 = rw (none-whole _ c.if-recv-eq0.true) (stop _ _ _ refl) in
-    rw (e, c.refuse.ensures)
+    rw e
 
 pub returns-then-run-lt-READ_ROOM : goal.returns-then-run-lt-READ_ROOM
 returns-then-run-lt-READ_ROOM c =
@@ -65,7 +65,7 @@ returns-then-run-lt-READ_ROOM c =
     let short = lt-leb take_room (length whole.args.run.now) c.if-run-lt-READ_ROOM.true in
     let e : row (goal.at.returns-then-run-lt-READ_ROOM c).Start
     ≡ 2 = rw (some-whole _ (oldest (goal.at.returns-then-run-lt-READ_ROOM c).Else-recv-eq0).some) (stop _ _ _ (rw short)) in
-    rw (e, c.refuse-then-run-lt-READ_ROOM.ensures)
+    rw e
 
 pub overflow_add-total : goal.overflow_add-total
 overflow_add-total c = let whole = c in omega
@@ -82,7 +82,7 @@ returns-then-taken-total c =
     let e : row (goal.at.returns-then-taken-total c).Start
     ≡ 2 = rw (some-whole _ (oldest (goal.at.returns-then-taken-total c).Else-recv-eq0).some)
     (stop _ _ _ (rw (le-leb _ _ fits.if-run-lt-READ_ROOM.false, short))) in
-    rw (e, c.refuse-then-taken-total.ensures)
+    rw e
 
 pub put_read-requires : goal.put_read-requires
 put_read-requires c = let total = c in (oldest (goal.at.put_read-requires c).Else-recv-eq0, total.if-run-lt-READ_ROOM.false)
@@ -113,7 +113,6 @@ returns c =
     let e : row (goal.at.returns c).Start ≡ 0 = rw (some-whole _ (oldest (goal.at.returns c).Else-recv-eq0).some) (next _ _ _ passed ∙ clear) in
     rw (
       e,
-      c.sent.ensures,
       first.take_first.ensures,
       message.put_message.ensures,
       read.put_read.ensures,

@@ -1,14 +1,10 @@
--- Assumes nothing.
+use Rattle.std.proofs.Common.{arith, ◌∙◌}
 use Rattle.lesson.proofs.Rooms.{came}
 use Rattle.lesson.proofs.room.arrive.Goals as goal
 
 pub returns : goal.returns
 returns c =
-    let packet = c in
-    let to = packet in
-    let from = to in
-    let frame = from in
-    let start = frame in
-    came start.args.recv.now start.args.send.now start.args.e.now _ _ _ start.args.run.now _
-    packet.packet-a.ensures frame.frame_of-frame.ensures from.from_of-from.ensures to.to_of-to.ensures start.requires
-    packet.packet-a.auto.run
+    let a = c.args in
+    let o = came a.node.now.recv a.node.now.send a.e.now _ _ _ a.run.now _ c.packet.ensures c.frame_of-frame.ensures c.from_of-from.ensures
+    c.to_of-to.ensures c.requires c.packet.auto.run in
+    (c.run_length.ensures ∙ o.0, o.1, o.2, o.3, omega (arith, c.run_length.ensures, o.4), o.5)

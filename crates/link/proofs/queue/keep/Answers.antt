@@ -7,6 +7,6 @@ pub returns : goal.returns
 returns c =
     let start = c in (
       kept start.args.queue.now _ _ start.args.e.now start.args.tail _ refl start.requires.0
-          c.put16.ensures c.copy_in.ensures,
+          c.write.ensures c.copy_in.ensures,
       omega arith,
     )

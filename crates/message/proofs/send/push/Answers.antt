@@ -39,7 +39,7 @@ marked n = cases (yes n) (λ e. rw e refl) (λ e. rw e refl)
 pub returns-then-not-sound : goal.returns-then-not-sound
 unfolding push_of push_row refusal
 returns-then-not-sound c =
-    rw (sym c.sound.ensures ∙ c.if-not-sound.true, c.refuse.ensures) refl
+    rw (sym c.sound.ensures ∙ c.if-not-sound.true) refl
 
 pub push-requires : goal.push-requires
 push-requires c =

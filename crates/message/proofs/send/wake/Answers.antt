@@ -11,7 +11,7 @@ use Rattle.message.proofs.send.wake.Goals.{Else-not-sound}
 pub returns-then-not-sound : goal.returns-then-not-sound
 unfolding wake_of wake_row refusal
 returns-then-not-sound c =
-    rw (sym c.sound.ensures ∙ c.if-not-sound.true, c.refuse.ensures) refl
+    rw (sym c.sound.ensures ∙ c.if-not-sound.true) refl
 
 -- the store is sound
 sounds : (c : Else-not-sound) → sound role_send c.args.send.now ≡ true

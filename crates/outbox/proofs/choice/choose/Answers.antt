@@ -27,7 +27,7 @@ loop-n-preserved c =
     let put = row in
     let at = put in
     let b = at.args.send.now in
-    let next = c.small-place.ensures.0 ∙ ap (λ (o : _). get_or b o 0) row.cell_at-row.ensures in
+    let next = c.from-place.ensures ∙ ap (λ (o : _). get_or b o 0) row.cell_at-row.ensures in
     let turn = put in
     choosing-more at.loop-n.invariant at.if-place-eq0.false at.loop-n-test.true put.rank-rank.ensures turn.turn_of-at.ensures
     put.put_in.ensures put.put_in-in-loop-n.ensures next

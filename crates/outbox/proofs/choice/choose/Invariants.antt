@@ -5,6 +5,3 @@ use Rattle.outbox.proofs.choice.choose.Given as goal
 
 abbrev pub invariant-loop-n : goal.invariant-loop-n
 invariant-loop-n l = Choosing l.send l.link l.clock l.ranks l.places l.place l.n
-
-abbrev pub decreases-loop-n : goal.decreases-loop-n
-decreases-loop-n l = 46 - l.n

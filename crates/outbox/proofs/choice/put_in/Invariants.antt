@@ -5,6 +5,3 @@ use Rattle.outbox.proofs.choice.put_in.Given as goal
 
 abbrev pub invariant-loop-i : goal.invariant-loop-i
 invariant-loop-i l = Moving l.initial.line l.at l.number l.line l.moved l.i
-
-abbrev pub decreases-loop-i : goal.decreases-loop-i
-decreases-loop-i l = 8 - l.i

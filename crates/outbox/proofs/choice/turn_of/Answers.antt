@@ -1,5 +1,6 @@
 use Prim.Native.Nat.{◌-◌}
 use native.Mathlib.Omega.{arith}
+use mathlib.Core.Path.{◌≡◌}
 use Rattle.outbox.proofs.Lines.{turn-here, turn_on, turn_end}
 use Rattle.outbox.proofs.choice.turn_of.Goals as goal
 
@@ -17,4 +18,7 @@ loop-i-preserved c =
     turn_on turn.requires turn.loop-i.invariant turn.loop-i-test.true c.if-rank-ranks.false
 
 pub returns : goal.returns
-returns c = turn_end c.requires c.loop-i.invariant c.loop-i-test.false
+returns c =
+    let h = turn_end c.requires c.loop-i.invariant c.loop-i-test.false in
+    let e : c.loop-i.i ≡ 8 = omega arith in
+    rw e at h

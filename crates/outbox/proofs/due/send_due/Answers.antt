@@ -39,4 +39,7 @@ send_piece-at-requires c = let turn = c in
     going-turn turn.loop-n.invariant (place_is (goal.at.send_piece-at-requires c).In-loop-n) turn.loop-n-test.true c.if-place-eq0.false
 
 pub returns : goal.returns
-returns c = going-out c.loop-n.invariant c.loop-n-test.false
+returns c =
+    let h = going-out c.loop-n.invariant c.loop-n-test.false in
+    let e : c.loop-n.n ≡ 8 = omega arith in
+    rw e at h

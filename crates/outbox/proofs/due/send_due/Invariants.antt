@@ -5,6 +5,3 @@ use Rattle.outbox.proofs.due.send_due.Given as goal
 
 abbrev pub invariant-loop-n : goal.invariant-loop-n
 invariant-loop-n l = Going l.initial.send l.link l.names l.clock l.initial.run l.send l.run l.at l.n
-
-abbrev pub decreases-loop-n : goal.decreases-loop-n
-decreases-loop-n l = 8 - l.n

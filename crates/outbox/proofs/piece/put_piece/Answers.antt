@@ -12,7 +12,7 @@ use Rattle.pieces.specs.ReadLaws.{cell_in, cell-byte, size_of, piece_bytes, piec
 use Rattle.outbox.specs.Sending.{chunk_of}
 use Rattle.outbox.specs.EntriesLaws.{chunk-length}
 use Rattle.outbox.proofs.piece.put_piece.Goals as goal
-use Rattle.outbox.proofs.piece.put_piece.Goals.{After-get16-size}
+use Rattle.outbox.proofs.piece.put_piece.Goals.{After-read-size}
 
 -- the piece of the cell k, whose row starts at `row`, has n bytes and is piece i
 record Piece (b : List ℕ) (k row n i : ℕ) : Type 0 where
@@ -25,29 +25,29 @@ index_is : (b : List ℕ) (k : ℕ) → get_or b (cell_off k + 1) 0 ≡ (read_ce
 unfolding cell_of
 index_is b k = sym (cell-byte b k index_at (omega arith))
 
-here : (c : After-get16-size) → let a = c.args in Piece a.send.now a.place c.cell_at-row.result c.get16-size.result c.wide-index.result
+here : (c : After-read-size) → let a = c.args in Piece a.send.now a.place c.cell_at-row.result c.read-size.result c.from-index.result
 here c =
     let s = c in
     let b = s.args.send.now in
     let k = s.args.place in
     let o = c.cell_at-row.result in
-    let n = c.get16-size.result in
+    let n = c.read-size.result in
     let q = c.cell_at-row.ensures in
     let t = s.requires in
     let i = cell_in b t.links k t.some t.most in
     let most : size_of b k ≤ largest_piece = t.links.sizes k t.some t.most in
-    let z : n ≡ size_of b k = c.get16-size.ensures.0 ∙ ap (λ (x : ℕ). num 2 (part b (x + 2) 2)) q in
+    let z : n ≡ size_of b k = c.read-size.ensures.0 ∙ ap (λ (x : ℕ). num 2 (part b (x + 2) 2)) q in
     record {
       fits = omega (arith, i.fits);
       size = piece-size b k i most ∙ sym z;
       is = part_of b (o + 16) (o + 16 + n) n (omega arith) ∙ (λ j. part b (q j + 16) (z j)) ∙ sym (piece_bytes b k most);
-      index = c.wide-index.ensures.0 ∙ ap (λ (x : ℕ). get_or b (x + 1) 0) q ∙ index_is b k;
+      index = c.from-index.ensures ∙ ap (λ (x : ℕ). get_or b (x + 1) 0) q ∙ index_is b k;
     }
 
 pub put_chunk-requires : goal.put_chunk-requires
 put_chunk-requires c =
     let size = c in
-    let p = here (goal.at.put_chunk-requires c).After-get16-size in
+    let p = here (goal.at.put_chunk-requires c).After-read-size in
     let t = size.requires in
     record {
       room = record {
@@ -65,10 +65,10 @@ returns c =
     let size = wrote in
     let s = size in
     let a = s.args in
-    let p = here (goal.at.returns c).After-get16-size in (
+    let p = here (goal.at.returns c).After-read-size in (
       omega (arith, chunk-length a.names.now s.requires.named (read_cell a.send.now a.place), p.size),
       rw (p.index, p.is) at wrote.put_chunk.ensures,
     )
 
 pub slice_bounds-put_chunk-end-4 : goal.slice_bounds-put_chunk-end-4
-slice_bounds-put_chunk-end-4 c = let p = here (goal.at.slice_bounds-put_chunk-end-4 c).After-get16-size in omega arith
+slice_bounds-put_chunk-end-4 c = let p = here (goal.at.slice_bounds-put_chunk-end-4 c).After-read-size in omega arith

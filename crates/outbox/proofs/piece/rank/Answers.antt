@@ -35,10 +35,10 @@ state-at : (c : After-passed) → let a = c.args in
     (read_cell a.send.now a.place).state ≡ get_or a.send.now (c.cell_at-row.result + 12) 0
 state-at c = let a = c.args in piece-state a.send.now a.place ∙ sym (ap (λ (o : ℕ). get_or a.send.now (o + 12) 0) c.cell_at-row.ensures)
 
-stamp-at : (c : After-passed) → let a = c.args in c.get64-stamp.result ≡ (read_cell a.send.now a.place).stamp
+stamp-at : (c : After-passed) → let a = c.args in c.read-stamp.result ≡ (read_cell a.send.now a.place).stamp
 stamp-at c =
     let a = c.args in
-    c.get64-stamp.ensures ∙ ap (λ (o : ℕ). num 8 (part a.send.now (o + 4) 8)) c.cell_at-row.ensures ∙ stamp-is a.send.now a.place
+    c.read-stamp.ensures.0 ∙ ap (λ (o : ℕ). num 8 (part a.send.now (o + 4) 8)) c.cell_at-row.ensures ∙ stamp-is a.send.now a.place
 
 abbrev cell : After-passed → Cell
 cell c = let a = c.args in read_cell a.send.now a.place

@@ -6,7 +6,10 @@ use mathlib.Core.Bool.{Bool}
 use lib.ListN.{length}
 use lib.Dec.{eqb}
 use borrow.Author.Tests.{ne_eqb, leb-true, ltb-true, not-true}
+use Rattle.std.proofs.lemmas.Result.{err_from_is_err_and}
 use Rattle.octets.specs.Octets.{capacity}
+use Rattle.answer.specs.Answers.{number}
+use Rattle.answer.specs.AnswersLaws.{some_number}
 use Rattle.octets.specs.Bools.{one}
 use Rattle.octets.specs.BoolsLaws.{cases, one-le}
 use Rattle.packet.specs.LengthsLaws.{length-entry, length-init}
@@ -21,7 +24,7 @@ use Rattle.machine_steps.proofs.Refusals.{Clear, refusal-clear}
 use Rattle.records.specs.Opening.{new_label}
 use Rattle.outbox.specs.Pushing.{pushes}
 use Rattle.outbox.proofs.push.push.Goals as goal
-use Rattle.outbox.proofs.push.push.Goals.{Else-number-ne-DONE, Start}
+use Rattle.outbox.proofs.push.push.Goals.{Start}
 
 -- its tests, and what the row answers
 abbrev tests : Start → Refusals
@@ -33,14 +36,8 @@ abbrev row : Start → ℕ
 row s = refusal (tests s)
 
 -- no refusal holds
-abbrev begun : Else-number-ne-DONE → Start
-begun c = c.before.before.before.before.before.before.before.before.before
-
-clear : (c : Else-number-ne-DONE) → row (begun c) ≡ 0
-clear c = sym c.refusal-number.ensures ∙ c.if-number-ne-DONE.false
-
-passed : (c : Else-number-ne-DONE) → Clear (tests (begun c))
-passed c = refusal-clear _ refl (clear c)
+passed : (s : Start) → 0 ≡ row s → Clear (tests s)
+passed s e = refusal-clear (tests s) refl (sym e)
 
 -- a flag, as the label and as the packet has it
 flag-label : (x : Bool) → yes (one x) ≡ x
@@ -55,22 +52,24 @@ init-long s =
     let n = s.requires.1 in
     length-entry _ _ _ n.source.0 n.destination.0 ∙ ap (λ (n : ℕ). 34 + n) (length-init _ _ _ _ n.id.0) ∙ omega arith
 
-pub returns-then-number-ne-DONE : goal.returns-then-number-ne-DONE
-returns-then-number-ne-DONE c =
-    let asked = c in
-    rw (← asked.refusal-number.ensures, ne_eqb asked.refusal-number.result 0 c.if-number-ne-DONE.true, c.refuse.ensures)
+pub returns-in_err-refusal : goal.returns-in_err-refusal
+returns-in_err-refusal c =
+    let e = c.in_err-refusal.field-0.0 in
+    let up = err_from_is_err_and c.from_residual.result c.from_residual.ensures.1 in
+    rw (up.1, up.2, ← c.in_err-refusal.ensures, ne_eqb (number e) 0 (λ z. omega (arith, z, some_number e))) refl
 
 pub overflow_add-times : goal.overflow_add-times
 unfolding capacity
-overflow_add-times c = let a = (begun c).args in omega (arith, ltb-true (a.created + a.try_ms) number_limit (passed c).1.1.1.0)
+overflow_add-times c =
+    let a = c.args in
+    let p = passed (goal.at.overflow_add-times c).Start c.in_ok-refusal.ensures in
+    omega (arith, ltb-true (a.created + a.try_ms) number_limit p.1.1.1.0)
 
 pub hold-requires : goal.hold-requires
 unfolding capacity
 hold-requires c =
-    let free = c in
-    let s = begun (goal.at.hold-requires c).Else-number-ne-DONE in
-    let known = free in
-    let p = passed (goal.at.hold-requires c).Else-number-ne-DONE in
+    let s = (goal.at.hold-requires c).Start in
+    let p = passed s c.in_ok-refusal.ensures in
     let n = s.requires.1 in
     let fits = leb-true (length s.args.bytes.now) longest p.1.1.0 in
     record {
@@ -82,7 +81,7 @@ hold-requires c =
             source = n.source;
             destination = n.destination;
             total = omega (arith, s.requires.2, fits);
-            topic = (leb-true _ _ p.1.0, λ i. (known.type_inv.topic i).fits);
+            topic = (leb-true _ _ p.1.0, λ i. (c.type_inv.topic i).fits);
           };
           reply = one-le s.args.label.reply;
           total = omega (arith, s.requires.2, fits);
@@ -97,26 +96,21 @@ hold-requires c =
 
 pub put_init-requires : goal.put_init-requires
 put_init-requires c =
-    let free = c in
-    let s = begun (goal.at.put_init-requires c).Else-number-ne-DONE in
-    let p = passed (goal.at.put_init-requires c).Else-number-ne-DONE in
+    let s = (goal.at.put_init-requires c).Start in
+    let p = passed s c.in_ok-refusal.ensures in
     let topic = leb-true (length s.args.topic.now) largest_topic p.1.0 in
     (omega arith, omega (arith, leb-true push_room (length s.args.run.now) p.0))
 
 pub returns : goal.returns
 returns c =
-    let put = c in
-    let held = put in
-    let free = held in
-    let s = begun (goal.at.returns c).Else-number-ne-DONE in
+    let s = (goal.at.returns c).Start in
     let flag = s.args.label.reply in
     rw (
-      clear (goal.at.returns c).Else-number-ne-DONE,
+      sym c.in_ok-refusal.ensures,
       flag-label flag,
-      c.sent.ensures,
       ← init-long s,
       ← s.requires.2,
-      held.hold.ensures,
-      put.put_init.ensures,
+      c.hold.ensures,
+      c.put_init.ensures,
       flag-packet flag,
     )

@@ -13,8 +13,8 @@ long : (c : After-destination) → length c.destination.result.now ≡ 16
 unfolding rec_of
 long c = ap length c.destination.ensures ∙ c.requires.0.sized.destination.0
 
-pub put64-requires-3 : goal.put64-requires-3
-put64-requires-3 c =
+pub write-requires-3 : goal.write-requires-3
+write-requires-3 c =
     let out4 = c in
     let out3 = out4 in
     let out2 = out3 in
@@ -40,9 +40,9 @@ returns c =
     let room = s.requires.1 in
     let w1 = wrote first.copy_in.ensures (long (goal.at.returns c).After-destination) (omega arith) in
     let w2 = then _ 4 w1 second.copy_in-2.ensures refl (omega arith) in
-    let w3 = then _ 8 w2 third.put64.ensures (length-be 8 _) (omega arith) in
-    let w4 = then _ 8 w3 fourth.put64-2.ensures (length-be 8 _) (omega arith) in
-    let w5 = then _ 8 w4 fifth.put64-3.ensures (length-be 8 _) (omega arith) in
+    let w3 = then _ 8 w2 third.write.ensures (length-be 8 _) (omega arith) in
+    let w4 = then _ 8 w3 fourth.write-2.ensures (length-be 8 _) (omega arith) in
+    let w5 = then _ 8 w4 fifth.write-3.ensures (length-be 8 _) (omega arith) in
     rw (
       to.destination.ensures,
       started.state.ensures,

@@ -35,7 +35,7 @@ searched c =
 pub returns-then-out-lt-ROOM : goal.returns-then-out-lt-ROOM
 returns-then-out-lt-ROOM c =
     let e : row (goal.at.returns-then-out-lt-ROOM c).Start ≡ 2 = stop _ _ _ (lt-leb _ _ c.if-out-lt-ROOM.true) in
-    rw (e, c.refuse.ensures)
+    rw e
 
 pub returns-then-send-link-eq0 : goal.returns-then-send-link-eq0
 returns-then-send-link-eq0 c =
@@ -43,7 +43,7 @@ returns-then-send-link-eq0 c =
     let h = searched (goal.at.returns-then-send-link-eq0 c).After-find_held-link in
     let e : row (goal.at.returns-then-send-link-eq0 c).Start ≡ 8 = from8 (goal.at.returns-then-send-link-eq0 c).Else-out-lt-ROOM
     ∙ sym (number_is h _ (none-met (ended h) _ c.if-send-link-eq0.true)) in
-    rw (e, c.refuse-then-send-link-eq0.ensures)
+    rw e
 
 pub put_report-requires : goal.put_report-requires
 put_report-requires c =
@@ -59,4 +59,4 @@ returns c =
     let at = there in
     let h = searched (goal.at.returns c).After-find_held-link in
     let e : row (goal.at.returns c).Start ≡ 0 = from8 (goal.at.returns c).Else-out-lt-ROOM ∙ sym (number_is h _ (sym (asks-met (ended h) _ some ∙ clear))) in
-    rw (e, found_some role_send _ h.bytes h.sound _ _ h.is some, c.sent.ensures, wrote.put_report.ensures)
+    rw (e, found_some role_send _ h.bytes h.sound _ _ h.is some, wrote.put_report.ensures)

@@ -58,21 +58,21 @@ returns-then-not-is_kind c =
     let kind = c in
     let e : row (goal.at.returns-then-not-is_kind c).Start ≡ 20 =
     stop _ _ _ (sym kind.is_kind.ensures ∙ c.if-not-is_kind.true) in
-    rw (e, c.refuse.ensures)
+    rw e
 
 pub returns-then-not-is_dated : goal.returns-then-not-is_dated
 returns-then-not-is_dated c =
     let asked = c in
     let e : row (goal.at.returns-then-not-is_dated c).Start ≡ 26 =
     from26 (goal.at.returns-then-not-is_dated c).Else-not-is_kind ∙ stop _ _ _ (sym asked.is_dated.ensures ∙ c.if-not-is_dated.true) in
-    rw (e, c.refuse-then-not-is_dated.ensures)
+    rw e
 
 pub returns-then-run-room : goal.returns-then-run-room
 returns-then-run-room c =
     let asked = c in
     let short = rw asked.room.ensures at c.if-run-room.true in
     let e : row (goal.at.returns-then-run-room c).Start ≡ 2 = from2 (goal.at.returns-then-run-room c).Else-not-is_dated ∙ stop _ _ _ (lt-leb _ _ short) in
-    rw (e, c.refuse-then-run-room.ensures)
+    rw e
 
 pub returns-then-send-link-eq0 : goal.returns-then-send-link-eq0
 returns-then-send-link-eq0 c =
@@ -80,7 +80,7 @@ returns-then-send-link-eq0 c =
     let h = searched (goal.at.returns-then-send-link-eq0 c).After-find_held-link in
     let e : row (start (goal.at.returns-then-send-link-eq0 c).After-find_held-link) ≡ 8 = from8 (goal.at.returns-then-send-link-eq0 c).Else-run-room
     ∙ sym (number_is h _ (none-met (ended h) _ c.if-send-link-eq0.true)) in
-    rw (e, c.refuse-then-send-link-eq0.ensures)
+    rw e
 
 pub wake_record-sent-requires : goal.wake_record-sent-requires
 wake_record-sent-requires c =
@@ -102,4 +102,4 @@ returns c =
     let e : row (start (goal.at.returns c).After-find_held-link) ≡ 0 = from8 (goal.at.returns c).Else-run-room
     ∙ sym (number_is h _ (sym (asks-met (ended h) _ some ∙ clear))) in
     let w = rw (own_key h some, ← found_some role_send _ h.bytes h.sound _ _ h.is some) at woke.wake_record-sent.ensures in
-    rw (e, c.sent.ensures, w.starts.ends, w.counts, w.store, w.starts.out)
+    rw (e, w.starts.ends, w.counts, w.store, w.starts.out)

@@ -28,7 +28,7 @@ lay-free-requires c =
     let small = c in
     let test = small in
     let loop = test in
-    cut-cell (given (goal.at.lay-free-requires c).After-shared_slice_known-1) loop.loop-at.invariant test.loop-at-test.true small.small.ensures.0
+    cut-cell (given (goal.at.lay-free-requires c).After-shared_slice_known-1) loop.loop-at.invariant test.loop-at-test.true small.from.ensures
 
 pub overflow_add-index : goal.overflow_add-index
 overflow_add-index c =
@@ -42,7 +42,7 @@ loop-at-preserved c =
     let small = lay in
     let test = small in
     let loop = test in
-    cut_on (given (goal.at.loop-at-preserved c).After-shared_slice_known-1) loop.loop-at.invariant test.loop-at-test.true small.small.ensures.0
+    cut_on (given (goal.at.loop-at-preserved c).After-shared_slice_known-1) loop.loop-at.invariant test.loop-at-test.true small.from.ensures
     lay.lay-free.ensures.0 lay.lay-free.ensures.1
 
 pub copy_in-requires : goal.copy_in-requires

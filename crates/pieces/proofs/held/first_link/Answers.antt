@@ -15,12 +15,12 @@ pub record_at-requires : goal.record_at-requires
 record_at-requires c =
     let known = c in
     let w = here-within _ _ (λ i. (known.shared_slice_known-1.given i).fits) _ known.requires.1 in
-    (omega (arith, w.0, c.small.ensures.0), omega (arith, w.1, c.small.ensures.0))
+    (omega (arith, w.0, c.from.ensures), omega (arith, w.1, c.from.ensures))
 
 pub returns : goal.returns
 returns c =
     let known = c in
     let start = known in
     let b = start.args.store.now in
-    let is : c.record_at.result + 5 ≡ first_link (place_at b start.args.link) = omega (arith, c.record_at.ensures, c.small.ensures.0) in
+    let is : c.record_at.result + 5 ≡ first_link (place_at b start.args.link) = omega (arith, c.record_at.ensures, c.from.ensures) in
     (is, subst (LinkIn b) (sym is) (here-first _ _ (λ i. (known.shared_slice_known-1.given i).fits) _ start.requires.1))

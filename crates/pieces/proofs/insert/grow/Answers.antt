@@ -9,4 +9,4 @@ returns c =
     let at = c2 in
     let start = at in
     grow-written start.args.store.now _ at.record_at-at.result start.args.place start.args.index _ _
-    at.record_at-at.ensures c2.wide.ensures.0 c2.larger-slots.ensures c1.copy_in.ensures
+    at.record_at-at.ensures c2.from.ensures c2.max-slots.ensures c1.copy_in.ensures

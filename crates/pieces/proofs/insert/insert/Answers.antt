@@ -10,7 +10,7 @@ returns c =
     let c1 = c2 in
     let at = c1 in
     let start = at in
-    insert-written start.args.store.now _ _ _ _ at.small-cell.result at.cell_at-row.result
+    insert-written start.args.store.now _ _ _ _ at.from-cell.result at.cell_at-row.result
     start.args.place start.args.link start.args.index
-    start.args.bytes.now at.small-cell.ensures.0 at.cell_at-row.ensures c1.grow.ensures
+    start.args.bytes.now at.from-cell.ensures at.cell_at-row.ensures c1.grow.ensures
     c2.put_cell.ensures c3.copy_in.ensures c4.copy_in-2.ensures

@@ -9,7 +9,7 @@ rewrite-requires c =
     let small = c in
     let taken = small in
     let s = taken in (
-      subst (CellIn s.args.store.now) (sym small.small-cell.ensures.0)
+      subst (CellIn s.args.store.now) (sym small.from-cell.ensures)
           (holds-cell _ _ _ s.requires.0 s.requires.1.link (sym taken.holds.ensures ∙ taken.if-holds.true)),
       s.requires.2.size,
     )
@@ -26,8 +26,8 @@ returns-then-holds c =
     let small = write in
     let taken = small in
     let s = taken in
-    chunk-held _ _ _ s.args.place s.args.index s.args.bytes.now s.requires.1.is small.small-cell.result
-    (sym taken.if-holds.true ∙ taken.holds.ensures) small.small-cell.ensures.0 write.rewrite.ensures
+    chunk-held _ _ _ s.args.place s.args.index s.args.bytes.now s.requires.1.is small.from-cell.result
+    (sym taken.if-holds.true ∙ taken.holds.ensures) small.from-cell.ensures write.rewrite.ensures
 
 pub returns-else-holds : goal.returns-else-holds
 returns-else-holds c =

@@ -25,7 +25,7 @@ put_in-requires c =
     let asks = put-asks b _ a.index a.bytes.now (λ j. (shared.slice_known-1.given j).fits)
     p.0 (p.4, λ j. (shared.type_inv.bytes j).fits) p.2 p.5 p.3 in
     subst (λ (k : ℕ). Links b × Spot b k a.index a.spot × PieceFits k a.index (length a.bytes.now)
-    × (holds_index b a.spot a.index ≡ false → 0 < get_or b free_cells_at 0)) (sym c.small-place.ensures.0)
+    × (holds_index b a.spot a.index ≡ false → 0 < get_or b free_cells_at 0)) (sym c.from-place.ensures)
     (asks.0, p.1, asks.1, λ e. asks.2 (ap (λ (o : ℕ). holds_index b o a.index) (sym p.1.is) ∙ e))
 
 pub returns : goal.returns
@@ -36,6 +36,6 @@ returns c =
     let start = shared in
     let a = start.args in
     let p = start.requires in
-    put.put_in.ensures ∙ ap (λ (k : ℕ). chunked a.store.now k a.index a.bytes.now) small.small-place.ensures.0
+    put.put_in.ensures ∙ ap (λ (k : ℕ). chunked a.store.now k a.index a.bytes.now) small.from-place.ensures
     ∙ put_is _ _ a.index a.bytes.now (λ j. (shared.slice_known-1.given j).fits) p.0
     (p.4, λ j. (shared.type_inv.bytes j).fits) p.2 p.5 p.3

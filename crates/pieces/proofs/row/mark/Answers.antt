@@ -9,4 +9,4 @@ returns c =
     let at = c2 in
     let start = at in
     marks-written start.args.store.now _ _ at.cell_at-row.result start.args.place start.args.stamp start.args.state
-    start.requires at.cell_at-row.ensures c2.put64.ensures c1.copy_in.ensures
+    start.requires at.cell_at-row.ensures c2.write.ensures c1.copy_in.ensures

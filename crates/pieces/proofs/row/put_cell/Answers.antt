@@ -13,5 +13,5 @@ returns c =
     let start = at in
     row_written start.args.store.now _ _ _ _ _ at.cell_at-row.result start.args.place
     start.args.next start.args.index start.args.bytes.now
-    start.requires.0 start.requires.1 at.cell_at-row.ensures c5.copy_in.ensures c4.put16.ensures
+    start.requires.0 start.requires.1 at.cell_at-row.ensures c5.copy_in.ensures c4.write.ensures
     c3.fill.ensures c2.copy_in-2.ensures c1.fill-2.ensures

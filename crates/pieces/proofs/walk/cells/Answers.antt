@@ -30,7 +30,7 @@ pub loop-n-preserved : goal.loop-n-preserved
 loop-n-preserved c =
     let row = c in
     let inv = row.loop-n.invariant in (
-      added_more ones inv.0 (omega arith) (here (goal.at.loop-n-preserved c).After-cell_at-row) row.cell_at-row.ensures c.small-place.ensures.0 refl,
+      added_more ones inv.0 (omega arith) (here (goal.at.loop-n-preserved c).After-cell_at-row) row.cell_at-row.ensures c.from-place.ensures refl,
       omega
           (arith, inv.1),
     )

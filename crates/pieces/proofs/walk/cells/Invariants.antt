@@ -6,6 +6,3 @@ use Rattle.pieces.proofs.walk.cells.Given as goal
 
 abbrev pub invariant-loop-n : goal.invariant-loop-n
 invariant-loop-n l = Adding length l.store l.first l.place l.found l.n × (l.found ≤ l.n)
-
-abbrev pub decreases-loop-n : goal.decreases-loop-n
-decreases-loop-n l = steps - l.n

@@ -1,3 +1,4 @@
+use Rattle.octets.specs.BoolsLaws.{one_is, one-le}
 use Prim.Native.Nat.{ℕ, ◌+◌, ◌-◌}
 use native.Mathlib.Omega.{arith}
 use mathlib.Core.Path.{refl, sym, ap, ◌∙◌}
@@ -41,11 +42,12 @@ loop-n-preserved c =
     let l = row in
     let b = l.args.store.now in
     let state = l.args.state in
-    let gives = same.same-found.ensures.0 ∙ ap (λ (o : ℕ). one (eqb state (get_or b (o + 12) 0))) row.cell_at-row.ensures
+    let is = eqb state (get_or b (row.cell_at-row.result + 12) 0) in
+    let gives = same.from-found.ensures ∙ one_is _ ∙ ap (λ (o : ℕ). one (eqb state (get_or b (o + 12) 0))) row.cell_at-row.ensures
     ∙ ap (λ (k : ℕ). one (eqb state k)) (sym (piece-state b l.loop-n.place)) in (
       added_more (states state) l.loop-n.invariant.0 (omega arith)
-          (here (goal.at.loop-n-preserved c).After-cell_at-row) row.cell_at-row.ensures c.small-place.ensures.0 gives,
-      omega (arith, l.loop-n.invariant.1, same.same-found.ensures.1),
+          (here (goal.at.loop-n-preserved c).After-cell_at-row) row.cell_at-row.ensures c.from-place.ensures gives,
+      omega (arith, l.loop-n.invariant.1, same.from-found.ensures ∙ one_is is, one-le is),
     )
 
 pub returns : goal.returns

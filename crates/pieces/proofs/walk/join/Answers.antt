@@ -38,7 +38,7 @@ loop-n-preserved c =
     let copy = row in
     let some = copy in
     let s = some in
-    let next = c.small-place.ensures.0 ∙ ap (λ (o : ℕ). get_or s.args.store.now o 0) row.cell_at-row.ensures in
+    let next = c.from-place.ensures ∙ ap (λ (o : ℕ). get_or s.args.store.now o 0) row.cell_at-row.ensures in
     joining-more some.loop-n.invariant (omega arith)
     (here (goal.at.loop-n-preserved c).Else-place-eq0) s.requires.2 copy.copy_piece-at.ensures.0 copy.copy_piece-at.ensures.1
     (search rules) next

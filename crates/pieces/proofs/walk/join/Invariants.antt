@@ -5,6 +5,3 @@ use Rattle.pieces.proofs.walk.join.Given as goal
 
 abbrev pub invariant-loop-n : goal.invariant-loop-n
 invariant-loop-n l = Joining l.store l.first l.initial.out l.out l.place l.at l.n
-
-abbrev pub decreases-loop-n : goal.decreases-loop-n
-decreases-loop-n l = steps - l.n

@@ -9,19 +9,19 @@ pub loop-n-init : goal.loop-n-init
 loop-n-init c = record { turns = omega arith; within = c.requires.1; gives = refl }
 
 pub returns-then-place-eq0 : goal.returns-then-place-eq0
-returns-then-place-eq0 c = spot-end c.loop-n.invariant (omega arith) c.small-place.ensures.0 c.if-place-eq0.true
+returns-then-place-eq0 c = spot-end c.loop-n.invariant (omega arith) c.from-place.ensures c.if-place-eq0.true
 
 pub cell_at-row-requires : goal.cell_at-row-requires
 cell_at-row-requires c =
     let l = c in
-    let m = met l.requires.0 (omega (arith, c.small-place.ensures.0, l.loop-n.invariant.within.leads)) c.if-place-eq0.false refl in
+    let m = met l.requires.0 (omega (arith, c.from-place.ensures, l.loop-n.invariant.within.leads)) c.if-place-eq0.false refl in
     (m.some, m.most)
 
 -- the link leads to a cell
-here : (c : After-cell_at-row) → Met c.args.store.now c.small-place.result c.cell_at-row.result
+here : (c : After-cell_at-row) → Met c.args.store.now c.from-place.result c.cell_at-row.result
 here c =
     let l = c in
-    met l.requires.0 (omega (arith, c.small-place.ensures.0, l.loop-n.invariant.within.leads)) c.if-place-eq0.false c.cell_at-row.ensures
+    met l.requires.0 (omega (arith, c.from-place.ensures, l.loop-n.invariant.within.leads)) c.if-place-eq0.false c.cell_at-row.ensures
 
 pub overflow_add-row : goal.overflow_add-row
 overflow_add-row c = let m = here c in omega arith
@@ -29,19 +29,19 @@ overflow_add-row c = let m = here c in omega arith
 pub bounds-store-row : goal.bounds-store-row
 bounds-store-row c = let m = here (goal.at.bounds-store-row c).After-cell_at-row in omega arith
 
-pub returns-then-index-wide : goal.returns-then-index-wide
-returns-then-index-wide c =
+pub returns-then-index-from : goal.returns-then-index-from
+returns-then-index-from c =
     let row = c in
     let p = row in
-    spot-here p.loop-n.invariant (omega arith) p.small-place.ensures.0 row.if-place-eq0.false row.cell_at-row.ensures
-    c.wide.ensures.0 c.if-index-wide.true
+    spot-here p.loop-n.invariant (omega arith) p.from-place.ensures row.if-place-eq0.false row.cell_at-row.ensures
+    c.from.ensures c.if-index-from.true
 
 pub loop-n-preserved : goal.loop-n-preserved
 loop-n-preserved c =
     let row = c in
     let p = row in
-    spot-more p.loop-n.invariant (omega arith) p.small-place.ensures.0 row.if-place-eq0.false row.cell_at-row.ensures
-    c.wide.ensures.0 c.if-index-wide.false p.requires.0
+    spot-more p.loop-n.invariant (omega arith) p.from-place.ensures row.if-place-eq0.false row.cell_at-row.ensures
+    c.from.ensures c.if-index-from.false p.requires.0
 
 pub returns : goal.returns
 returns c = spot_out c.loop-n.invariant c.loop-n-test.false

@@ -5,6 +5,3 @@ use Rattle.pieces.proofs.walk.spot.Given as goal
 
 abbrev pub invariant-loop-n : goal.invariant-loop-n
 invariant-loop-n l = Seeking l.store l.link l.index l.here l.n
-
-abbrev pub decreases-loop-n : goal.decreases-loop-n
-decreases-loop-n l = steps - l.n

@@ -3,7 +3,7 @@ use native.Mathlib.Omega.{arith}
 use mathlib.Core.Path.{refl, sym}
 use Rattle.pieces.proofs.Walks.{Met, met, Piece, piece-here, added-end, added_out, added_more, sums}
 use Rattle.pieces.proofs.walk.total.Goals as goal
-use Rattle.pieces.proofs.walk.total.Goals.{After-cell_at-row, After-get16-sum}
+use Rattle.pieces.proofs.walk.total.Goals.{After-cell_at-row, After-read-sum}
 
 -- the chain is at a cell
 here : (c : After-cell_at-row) → Met c.args.store.now c.loop-n.place c.cell_at-row.result
@@ -19,13 +19,13 @@ pub loop-n-init : goal.loop-n-init
 loop-n-init c = (record { turns = omega arith; leads = c.requires.1; gives = omega arith }, omega arith)
 
 -- its piece's size is read
-read : (c : After-get16-sum) → let l = c in
-    Piece l.args.store.now l.loop-n.place c.cell_at-row.result c.get16-sum.result
+read : (c : After-read-sum) → let l = c in
+    Piece l.args.store.now l.loop-n.place c.cell_at-row.result c.read-sum.result
 read c =
     let l = c in
     piece-here l.requires.0
     (met l.requires.0 l.loop-n.invariant.0.leads c.if-place-eq0.false c.cell_at-row.ensures).some l.loop-n.invariant.0.leads c.cell_at-row.ensures
-    c.get16-sum.ensures.0
+    c.read-sum.ensures.0
 
 pub returns-then-place-eq0 : goal.returns-then-place-eq0
 returns-then-place-eq0 c = added-end sums c.loop-n.invariant.0 c.if-place-eq0.true
@@ -33,8 +33,8 @@ returns-then-place-eq0 c = added-end sums c.loop-n.invariant.0 c.if-place-eq0.tr
 pub overflow_add-row : goal.overflow_add-row
 overflow_add-row c = let m = here c in omega arith
 
-pub get16-sum-requires : goal.get16-sum-requires
-get16-sum-requires c = let m = here c in omega arith
+pub read-sum-requires : goal.read-sum-requires
+read-sum-requires c = let m = here c in omega arith
 
 pub bounds-store-row : goal.bounds-store-row
 bounds-store-row c = let m = here (goal.at.bounds-store-row c).After-cell_at-row in omega arith
@@ -44,8 +44,8 @@ loop-n-preserved c =
     let size = c in
     let row = size in
     let inv = row.loop-n.invariant in
-    let p = read (goal.at.loop-n-preserved c).After-get16-sum in (
-      added_more sums inv.0 (omega arith) (here (goal.at.loop-n-preserved c).After-cell_at-row) row.cell_at-row.ensures c.small-place.ensures.0 (sym p.size),
+    let p = read (goal.at.loop-n-preserved c).After-read-sum in (
+      added_more sums inv.0 (omega arith) (here (goal.at.loop-n-preserved c).After-cell_at-row) row.cell_at-row.ensures c.from-place.ensures (sym p.size),
       omega (arith, inv.1, p.most),
     )
 

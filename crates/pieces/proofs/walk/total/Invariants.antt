@@ -7,6 +7,3 @@ use Rattle.pieces.proofs.walk.total.Given as goal
 
 abbrev pub invariant-loop-n : goal.invariant-loop-n
 invariant-loop-n l = Adding sizes l.store l.first l.place l.sum l.n × (l.sum ≤ largest_piece * l.n)
-
-abbrev pub decreases-loop-n : goal.decreases-loop-n
-decreases-loop-n l = steps - l.n

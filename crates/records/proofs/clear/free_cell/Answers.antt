@@ -12,6 +12,6 @@ returns c =
     let link = copy in
     let row = link in
     let start = row in (
-      c.small.ensures.0 ∙ ap (λ (o : ℕ). get_or start.args.store.now o 0) row.cell_at-row.ensures,
+      c.from.ensures ∙ ap (λ (o : ℕ). get_or start.args.store.now o 0) row.cell_at-row.ensures,
       cell-is start.requires.1 start.requires.0 row.cell_at-row.ensures link.or_else.ensures copy.copy_in.ensures fill.fill.ensures,
     )

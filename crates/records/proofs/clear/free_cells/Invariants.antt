@@ -6,6 +6,3 @@ use Rattle.records.proofs.clear.free_cells.Given as goal
 
 abbrev pub invariant-loop-n : goal.invariant-loop-n
 invariant-loop-n l = Freeing l.end l.first l.initial.store l.store l.place l.n
-
-abbrev pub decreases-loop-n : goal.decreases-loop-n
-decreases-loop-n l = suc most_cells - l.n

@@ -4,4 +4,4 @@ use Rattle.records.proofs.Fields.{number_is}
 use Rattle.records.proofs.field.number.Goals as goal
 
 pub returns : goal.returns
-returns c = c.get64.ensures ∙ number_is _ _ _ c.row_at.ensures.0 _ c.requires.1
+returns c = c.read.ensures.0 ∙ number_is _ _ _ c.row_at.ensures.0 _ c.requires.1

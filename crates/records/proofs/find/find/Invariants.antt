@@ -6,6 +6,3 @@ use Rattle.records.proofs.find.find.Given as goal
 
 abbrev pub invariant-loop-n : goal.invariant-loop-n
 invariant-loop-n l = Following l.id l.store l.link l.here l.n
-
-abbrev pub decreases-loop-n : goal.decreases-loop-n
-decreases-loop-n l = suc rec_count - l.n

@@ -10,4 +10,4 @@ returns c =
     let c18 = c14 in
     let start = c18 in
     rest-is _ _ _ _ _ _ _ _ _ _ _ start.requires.0 start.requires.1
-    c18.put64.ensures c14.put64-2.ensures c10.put64-3.ensures c6.copy_in.ensures c.fill.ensures
+    c18.write.ensures c14.write-2.ensures c10.write-3.ensures c6.copy_in.ensures c.fill.ensures

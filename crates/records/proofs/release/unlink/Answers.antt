@@ -10,7 +10,7 @@ release-requires c =
     let row = first in
     let place = row in
     let start = place in
-    rw (next.copy_in.ensures, first.small-first.ensures.0, row.record_at-row.ensures, place.small-place.ensures.0) (unlink-loose _ _ _ start.requires)
+    rw (next.copy_in.ensures, first.from-first.ensures, row.record_at-row.ensures, place.from-place.ensures) (unlink-loose _ _ _ start.requires)
 
 pub returns : goal.returns
 returns c =
@@ -18,5 +18,5 @@ returns c =
     let next = release in
     let first = next in
     let row = first in
-    unlinked-is _ _ row.small-place.ensures.0 row.record_at-row.ensures first.small-first.ensures.0 next.copy_in.ensures
+    unlinked-is _ _ row.from-place.ensures row.record_at-row.ensures first.from-first.ensures next.copy_in.ensures
     release.release.ensures

@@ -1,5 +1,6 @@
 -- Assumes nothing.
-use mathlib.Core.Path.{◌≡◌, sym}
+use mathlib.Core.Path.{◌≡◌, sym, ◌∙◌}
+use Rattle.octets.specs.BoolsLaws.{one_is}
 use mathlib.Core.Bool.{◌&&◌}
 use lib.Dec.{eqb}
 use Rattle.octets.specs.Octets.{same}
@@ -46,4 +47,4 @@ returns c =
     let s = third in
     λ i. sources (goal.at.returns c).After-equal-from i && destinations (goal.at.returns c).After-equal-to i && eqb (third.total.ensures i)
     (said (goal.at.returns c).Start).total
-    && topics (goal.at.returns c).After-equal-about i && eqb (c.reply.ensures i) (c.mark.ensures i)
+    && topics (goal.at.returns c).After-equal-about i && eqb (c.reply.ensures i) ((c.from.ensures ∙ one_is _) i)

@@ -18,7 +18,7 @@ clear-requires c =
     let k = row in
     let start = k in
     restart-chain start.args.store.now (λ i. (k.slice_known-1.given i).fits) start.args.at start.requires.0 _ (fine-fields start.requires.2)
-    _ _ _ row.row_at-row.ensures.0 written.put_row.ensures c.small.ensures.0
+    _ _ _ row.row_at-row.ensures.0 written.put_row.ensures c.from.ensures
 
 pub returns : goal.returns
 returns c =
@@ -28,4 +28,4 @@ returns c =
     let k = row in
     let start = k in
     restarted start.args.store.now (λ i. (k.slice_known-1.given i).fits) start.args.at start.requires.0 _ (fine-fields start.requires.2)
-    _ _ _ row.row_at-row.ensures.0 written.put_row.ensures small.small.ensures.0 start.requires.2 start.requires.1 _ c.clear.ensures
+    _ _ _ row.row_at-row.ensures.0 written.put_row.ensures small.from.ensures start.requires.2 start.requires.1 _ c.clear.ensures

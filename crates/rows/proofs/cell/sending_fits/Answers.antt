@@ -5,8 +5,8 @@ use Rattle.rows.proofs.cell.sending_fits.Goals as goal
 
 pub returns-then-role-eq-RECEIVE : goal.returns-then-role-eq-RECEIVE
 unfolding cell_of
-returns-then-role-eq-RECEIVE c = rw (eq-eqb _ 1 c.if-role-eq-RECEIVE.true, c.get64-stamp.ensures)
+returns-then-role-eq-RECEIVE c = rw (eq-eqb _ 1 c.if-role-eq-RECEIVE.true, c.read-stamp.ensures.0)
 
 pub returns : goal.returns
 unfolding cell_of
-returns c = rw (ne_eqb _ 1 c.if-role-eq-RECEIVE.false, c.get64-stamp.ensures)
+returns c = rw (ne_eqb _ 1 c.if-role-eq-RECEIVE.false, c.read-stamp.ensures.0)

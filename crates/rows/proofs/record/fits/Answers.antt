@@ -8,7 +8,7 @@ use Rattle.rows.proofs.record.fits.Goals as goal
 
 pub returns-then-length-gt-LONGEST : goal.returns-then-length-gt-LONGEST
 unfolding record_fits
-returns-then-length-gt-LONGEST c = rw (← c.get64-length.ensures, lt-leb _ 32500 c.if-length-gt-LONGEST.true) (sym (simp and-false))
+returns-then-length-gt-LONGEST c = rw (← c.read-length.ensures.0, lt-leb _ 32500 c.if-length-gt-LONGEST.true) (sym (simp and-false))
 
 pub returns : goal.returns
 returns c =
@@ -16,10 +16,10 @@ returns c =
     let c10 = b6 in
     let b11 = c10 in
     rw (
-      c.wide-2.ensures.0,
+      c.from-2.ensures,
       b6.ends-rest.ensures,
-      b6.small-past.ensures.0,
+      b6.from-past.ensures,
       b6.sending_fits-sending.ensures,
       c.slots_fit-slots.ensures,
-      c.wide.ensures.0,
-    ) (record_is _ _ _ _ b11.get64-length.ensures c10.if-length-gt-LONGEST.false)
+      c.from.ensures,
+    ) (record_is _ _ _ _ b11.read-length.ensures.0 c10.if-length-gt-LONGEST.false)

@@ -1,25 +1,11 @@
-use native.Mathlib.Omega.{arith}
-use mathlib.Core.Path.{refl, sym, ◌∙◌}
+use Rattle.std.proofs.Common.{rules, tests, ◌∙◌}
+use Rattle.std.proofs.lemmas.Iterator.{YieldsList-from_slice}
+use Rattle.std.proofs.lemmas.Iterator.Search.{all_from_yields_List}
 use Rattle.script.specs.Input.{is_letter}
-use Rattle.script.proofs.Lines.{all-on, all-off, all_end}
+use Rattle.script.proofs.Lines.{all-is}
 use Rattle.script.proofs.input.all_letters.Goals as goal
 
-pub returns-then-not-is_letter : goal.returns-then-not-is_letter
-returns-then-not-is_letter c = all-off is_letter _ _ c.loop-i-test.true (sym c.is_letter.ensures ∙ c.if-not-is_letter.true)
-    c.loop-i.invariant.1
-
-pub loop-i-preserved : goal.loop-i-preserved
-loop-i-preserved c = (
-  omega arith,
-  all-on is_letter _ _ c.loop-i-test.true
-      (sym c.is_letter.ensures ∙ c.if-not-is_letter.false) c.loop-i.invariant.1,
-)
-
 pub returns : goal.returns
-returns c = all_end is_letter _ _ c.loop-i-test.false c.loop-i.invariant.1
-
-pub loop-i-init : goal.loop-i-init
-loop-i-init c = (omega arith, refl)
-
-pub is_letter-requires : goal.is_letter-requires
-is_letter-requires c = tt
+returns c =
+    all_from_yields_List is_letter _ _ _ c.all.ensures.ran (YieldsList-from_slice c.args.s.now cc) (λ x b q k. search (rules, tests))
+    ∙ all-is is_letter c.args.s.now

@@ -1,3 +1,4 @@
+-- Assumes nothing.
 use borrow.Author.Rules.{rules}
 use mathlib.Core.Path.{refl, sym, ap, ◌∙◌}
 use Prim.Native.Nat.{◌*◌}
@@ -10,19 +11,17 @@ use Rattle.sums.proofs.line.hexadecimal.Goals as goal
 
 pub loop-i-init : goal.loop-i-init
 unfolding hexadecimal
-loop-i-init c = (search rules, search rules, refl)
+loop-i-init c = (search rules, refl)
 
 pub loop-i-preserved : goal.loop-i-preserved
 loop-i-preserved c =
-    let at = c in
-    let l = at.loop-i in (
-      search rules,
-      simp length-set l.invariant.1,
-      hex-more at.args.sum l.text l.i _ _ (omega arith) (omega arith) l.invariant.2 c.upper.ensures c.lower.ensures,
+    let l = c.loop-i in (
+      simp length-set l.invariant.0,
+      hex-more c.args.sum l.text l.i _ _ (omega arith) (omega arith) l.invariant.1 c.digit.ensures c.digit-in-loop-i.ensures,
     )
 
 pub returns : goal.returns
 returns c =
     let l = c.loop-i in
-    sym (take_all (2 * l.i) l.text (omega arith)) ∙ l.invariant.2
+    sym (take_all (2 * l.i) l.text (omega arith)) ∙ l.invariant.1
     ∙ ap hexadecimal (take_all l.i c.args.sum (omega arith))

@@ -1,46 +1,27 @@
-use Prim.Native.Nat.{ℕ, ◌*◌, ◌/◌}
-use native.Mathlib.Omega.{arith}
-use mathlib.Core.Path.{◌≡◌, refl, sym, ap, ◌∙◌}
+-- `topic::subnet::agree` meets its contract: whole bytes, and then the first bits of the next. Assumes nothing.
+use Rattle.std.proofs.Common.{ℕ, ◌-◌, ◌/◌, ◌%◌, ◌^◌, ◌≡◌, sym, ◌&&◌, eqb, get_or, arith, eq-eqb}
 use Rattle.topic.specs.Subnet.{inside}
-use Rattle.topic.proofs.Prefix.{inside_on, inside-off, inside-last}
+use Rattle.topic.proofs.Prefix.{inside-is}
 use Rattle.topic.proofs.subnet.agree.Goals as goal
+use Rattle.topic.proofs.subnet.agree.Goals.{After-eq}
 
-pub loop-i-init : goal.loop-i-init
-unfolding inside
-loop-i-init c = (omega arith, refl)
-
-pub returns-then-a-i : goal.returns-then-a-i
-returns-then-a-i c =
-    let l = c in
-    sym (inside-off _ _ l.loop-i.i (omega (arith, l.shared_slice_known-1.given l.loop-i.i))
-    (omega (arith, l.shared_slice_known-2-1.given l.loop-i.i))
-    _ (omega arith) c.if-a-i.true)
-
-pub loop-i-preserved : goal.loop-i-preserved
-loop-i-preserved c =
-    let l = c in (
-      omega arith,
-      inside_on _ _ l.loop-i.i (omega (arith, l.shared_slice_known-1.given l.loop-i.i))
-          (omega (arith, l.shared_slice_known-2-1.given l.loop-i.i))
-          l.loop-i.invariant.1 c.if-a-i.false,
-    )
+-- what the definition says, by what the comparison of the whole bytes gave
+told : (c : After-eq) → inside c.args.a.now c.args.net.now c.args.bits
+    ≡ (c.eq.result && eqb (get_or c.args.a.now c.from-whole.result 0 / 2 ^ (8 - c.args.bits % 8))
+    (get_or c.args.net.now c.from-whole.result 0 / 2 ^ (8 - c.args.bits % 8)))
+told c =
+    inside-is c.args.a.now c.args.net.now (λ i. (c.type_inv.a i).fits) (λ i. (c.type_inv.net i).fits) c.args.bits
+    c.from-whole.result c.eq.result c.from-whole.ensures (omega arith) (omega arith) c.eq.ensures
 
 pub returns-then-rest-eq0 : goal.returns-then-rest-eq0
 returns-then-rest-eq0 c =
-    let l = c in
-    let e : l.args.bits ≡ 8 * l.loop-i.i = omega arith in
-    sym (ap (inside _ _) e ∙ l.loop-i.invariant.1)
+    let a : ℕ = get_or c.args.a.now c.from-whole.result 0 in
+    let n : ℕ = get_or c.args.net.now c.from-whole.result 0 in
+    rw (told (goal.at.returns-then-rest-eq0 c).After-eq, c.if-eq.true, c.if-rest-eq0.true)
+    (sym (eq-eqb (a / 2 ^ 8) (n / 2 ^ 8) (omega (arith, c.type_inv.a c.from-whole.result, c.type_inv.net c.from-whole.result))))
 
-pub alike-requires : goal.alike-requires
-alike-requires c = (omega arith, omega arith)
+pub returns-else-rest-eq0 : goal.returns-else-rest-eq0
+returns-else-rest-eq0 c = rw (told (goal.at.returns-else-rest-eq0 c).After-eq, c.if-eq.true) c.alike.ensures
 
-pub returns : goal.returns
-returns c =
-    let l = c in
-    let s = l.args in
-    let q : ℕ = s.bits / 8 in
-    let e : l.loop-i.i ≡ q = omega arith in
-    c.alike.ensures
-    ∙ sym (inside-last s.a.now s.net.now q (omega (arith, l.shared_slice_known-1.given q))
-    (omega (arith, l.shared_slice_known-2-1.given q)) _ refl
-    (ap (λ (n : ℕ). inside s.a.now s.net.now (8 * n)) (sym e) ∙ l.loop-i.invariant.1))
+pub returns-else-eq : goal.returns-else-eq
+returns-else-eq c = rw (told (goal.at.returns-else-eq c).After-eq, c.if-eq.false)

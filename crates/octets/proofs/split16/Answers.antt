@@ -1,8 +1,0 @@
--- Assumes nothing.
-use mathlib.Core.Path.{refl}
-use Rattle.octets.specs.Octets.{be}
-use Rattle.octets.proofs.split16.Goals as goal
-
-pub returns : goal.returns
-unfolding be
-returns c = refl

@@ -50,7 +50,6 @@ pub fn put(v: &mut [u32], j: usize, w: &[u32])
 
 // A round of each lane, and the message words of the next.
 fn round(v: &mut [u32; 64], m: &mut [u32; 64])
-    requires { Lanes 16 v.old × Lanes 16 m.old }
     ensures { Rounded v.old m.old v.new m.new }
 {
     for j in 0..LANES {
@@ -63,7 +62,6 @@ fn round(v: &mut [u32; 64], m: &mut [u32; 64])
 
 // All seven rounds of each lane.
 fn rounds(v: &mut [u32; 64], m: &mut [u32; 64])
-    requires { Lanes 16 v.old × Lanes 16 m.old }
     ensures { AllRounds v.old m.old v.new }
 {
     for _ in 0..ROUNDS {
@@ -86,25 +84,23 @@ fn node_at(s: &[u8], a: usize, i: usize, t: u64, f: u32, h: [u32; 8]) -> Node
     }
 }
 
-// Block i of each lane before the first round: the states, and the message words. The words are put first, since
-// the compiler then keeps more of them in registers: the other order took 4% longer.
+// Block i of each lane before the first round: the states, and the message words.
 fn begin(s: &[u8], c: Chunks, i: usize, f: u32, h: &[u32; 32]) -> ([u32; 64], [u32; 64])
-    requires { Inside s.now c (block_len * i + block_len) × Lanes 8 h.now }
+    requires { Inside s.now c (block_len * i + block_len) }
     ensures { Begun s.now c i f h.now result.0 result.1 }
 {
     let mut v = [0u32; 64];
     let mut m = [0u32; 64];
     for j in 0..LANES {
         let n = node_at(s, c.at[j], i, c.first + (j as u64), f, lane(h, j));
-        put(&mut m, j, &n.block);
         put(&mut v, j, &n.start());
+        put(&mut m, j, &n.block);
     }
     (v, m)
 }
 
 // The chaining values h from the state v after the last round.
 fn end(v: &[u32; 64], h: &mut [u32; 32])
-    requires { Lanes 16 v.now × Lanes 8 h.old }
     ensures { Finished v.now h.old h.new }
 {
     for j in 0..LANES {
@@ -115,7 +111,7 @@ fn end(v: &[u32; 64], h: &mut [u32; 32])
 
 // The chaining values h after block i of each lane, which is whole and has the flags f.
 fn step(s: &[u8], c: Chunks, i: usize, f: u32, h: &mut [u32; 32])
-    requires { Inside s.now c (block_len * i + block_len) × Lanes 8 h.old }
+    requires { Inside s.now c (block_len * i + block_len) }
     ensures { Stepped s.now c i f h.old h.new }
 {
     let (mut v, mut m) = begin(s, c, i, f, h);
@@ -125,7 +121,7 @@ fn step(s: &[u8], c: Chunks, i: usize, f: u32, h: &mut [u32; 32])
 
 // The chaining values h before block e of each lane, from those before block a.
 pub fn blocks(s: &[u8], c: Chunks, a: usize, e: usize, h: &mut [u32; 32])
-    requires { (a ≤ e) × Inside s.now c (block_len * e) × Lanes 8 h.old }
+    requires { (a ≤ e) × Inside s.now c (block_len * e) }
     ensures { Carried s.now c a e h.old h.new }
 {
     for i in a..e {
@@ -135,7 +131,7 @@ pub fn blocks(s: &[u8], c: Chunks, a: usize, e: usize, h: &mut [u32; 32])
 
 // The chaining values h of each lane's chunk, which is whole, from those before block a.
 pub fn whole_chunks(s: &[u8], c: Chunks, a: usize, h: &mut [u32; 32])
-    requires { (a ≤ last_block) × Inside s.now c chunk_len × Lanes 8 h.old }
+    requires { (a ≤ last_block) × Inside s.now c chunk_len }
     ensures { Ended s.now c a h.old h.new }
 {
     blocks(s, c, a, LAST, h);

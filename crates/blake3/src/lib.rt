@@ -21,8 +21,8 @@ use mode::{KEYED, MATERIAL, Mode};
 // The bytes of a key.
 pub const KEY: usize = 32;
 
-// The node over all of s. That of one block is not handed up through the tree's functions: the copies would take a
-// tenth of its time.
+// The node over all of s. That of one block is not handed up through the tree's functions: the copies would take
+// 4% of its time.
 fn root(mode: &Mode, s: &[u8]) -> node::Node
     ensures { result ≡ node mode.now.key mode.now.flags s.now 0 }
 {

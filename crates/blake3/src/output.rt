@@ -12,6 +12,7 @@ pub fn bytes<const N: usize>(w: &[u32]) -> [u8; N]
     ensures { result ≡ bytes N w.now }
 {
     let mut out = [0u8; N];
+    // of an array whose length is a parameter, a part is lent as a slice's only
     let all = &mut out[..];
     for (k, word) in w.iter().enumerate() {
         all[4 * k..4 * k + 4].copy_from_slice(&word.to_le_bytes());

@@ -48,7 +48,7 @@ fn columns(s: [u32; 16], m: [u32; 16]) -> [u32; 16]
     ]
 }
 
-// G on the diagonals of s.
+// G on the diagonals of s. As one function with `columns` it would go by tables of places, which are no plainer.
 #[tactic(auto, unfolding(crate::specs::SideBySide::diagonals, crate::specs::SideBySide::slanted))]
 fn diagonals(s: [u32; 16], m: [u32; 16]) -> [u32; 16]
     ensures { result ≡ side.diagonals s m }

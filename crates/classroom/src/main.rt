@@ -25,7 +25,8 @@ fn lines<R: Read + Drop>(alloc: Global, input: R, text: &mut [u8; TEXT]) -> io::
     Ok(lesson::classroom(&bytes, text))
 }
 
-// Writes the lines for an input.
+// Writes the lines for an input. `cuts` has the same for its list: a function for both would be handed the call and the
+// buffer, which is all that there is in each.
 pub fn run<R: Read + Drop, W: Write>(alloc: Global, input: R, out: &mut W) -> io::Result<()>
     ensures { OnOk result (IfSome (R.remaining input) (λ all.
         Appends (W.contents out.old) (W.contents out.new) (classroom_of all))) }

@@ -2,7 +2,7 @@
 
 #![tactic(auto)]
 
-ghost use Rattle.std.specs.Prelude.{◌≡◌, take, vec_items, IfOk, IfSome};
+ghost use Rattle.std.specs.Prelude.{◌≡◌, take, IfOk, IfSome};
 
 use std::alloc::Global;
 use std::io;

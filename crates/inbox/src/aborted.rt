@@ -9,7 +9,8 @@ ghost use Rattle.records.specs.HeldAt.{Receives};
 ghost use Rattle.records.specs.Step.{stepped};
 
 use answer::Refusal;
-use records::find;
+use records::find::Store;
+use rows::head::RECEIVE;
 
 // Aborted: the refusal, or the store without the arriving record.
 pub fn abort(recv: &mut [u8], id: &[u8]) -> Result<(), Refusal>
@@ -20,10 +21,10 @@ pub fn abort(recv: &mut [u8], id: &[u8]) -> Result<(), Refusal>
         record { number = answered result; store = recv.new }
         ≡ stepped (refusal (held_row (found k s.held))) (drop_step k s) b }
 {
-    let link = find::find_held(recv, id);
-    if recv[link] == 0 {
+    let Some(held) = (Store::<'_, RECEIVE> { bytes: recv }).find(id) else {
         return Err(Refusal::UnknownId);
-    }
+    };
+    let link = held.row.link;
     records::release::drop(recv, link);
     Ok(())
 }

@@ -4,18 +4,18 @@ ghost use Rattle.std.specs.Prelude.{◌≡◌, ◌+◌, ◌≤◌, length, leb};
 ghost use Rattle.answer.specs.Results.{answered};
 ghost use Rattle.packet.specs.Frame.{largest_piece};
 ghost use Rattle.machine.specs.Limits.{longest};
-ghost use Rattle.machine.specs.Codes.{role_receive};
 ghost use Rattle.machine.specs.Layout.{decode};
 ghost use Rattle.machine.specs.Receive.{found, chunk_step};
-ghost use Rattle.machine.specs.Refusals.{refusal, asks_of};
+ghost use Rattle.machine.specs.Refusals.{refusal};
 ghost use Rattle.machine.specs.Packet.{chunk_row, too_short, piece_row, cell_row};
-ghost use Rattle.records.specs.HeldAt.{met_at, place_at, rec_in, HeldAt, Searched, Receives};
+ghost use Rattle.records.specs.HeldAt.{rec_in, Receives};
 ghost use Rattle.records.specs.Step.{stepped};
-ghost use Rattle.pieces.specs.InPlace.{Spot};
 
 use crate::share;
 use answer::Refusal;
-use records::{field, find};
+use pieces::held::PieceLink;
+use records::find::{Held, Store};
+use rows::head::RECEIVE;
 use rows::{message, record};
 
 // Row 9: whether the piece ends inside the message.
@@ -26,6 +26,7 @@ fn fits(offset: u64, size: u64, total: u64) -> bool
 }
 
 // Row 11: whether the piece, which ends inside the message, is too short for where it stands.
+#[tactic(auto, unfolding(machine::specs::Packet::too_short))]
 fn too_short(total: u64, index: u64, offset: u64, size: u64) -> bool
     requires { (total ≤ longest) × (offset + size ≤ total) }
     ensures { result ≡ too_short total index offset size }
@@ -34,32 +35,32 @@ fn too_short(total: u64, index: u64, offset: u64, size: u64) -> bool
 }
 
 // Rows 28 and 12: a piece at a new index needs a cell, of its source's share and of those that are free.
-fn cell_refusal(recv: &[u8], link: usize, spot: usize, index: u64) -> Result<(), Refusal>
-    requires { HeldAt role_receive recv.now link × Spot recv.now (place_at recv.now link) index spot }
-    ensures { let b = recv.now in
-        answered result ≡ refusal (cell_row index (decode b) (rec_in b link)) }
+#[tactic(auto, unfolding(machine::specs::Layout::rec_of), using(records::specs::RefuseLaws::rows))]
+fn cell_refusal(at: PieceLink<'_, RECEIVE>) -> Result<(), Refusal>
+    ensures { let b = at.entry.held.row.store.now in
+        answered result ≡ refusal (cell_row at.entry.index (decode b) (rec_in b at.entry.held.row.link)) }
 {
-    if pieces::held::has_piece(recv, link, spot, index) {
+    if at.is_taken() {
         return Ok(());
     }
-    if share::of_source(recv, field::source(recv, link)) >= record::MOST_OF_SOURCE {
+    let row = at.held.row;
+    let store = Store::<'_, RECEIVE> { bytes: row.store };
+    if share::of_source(store, row.source()) >= record::MOST_OF_SOURCE {
         return Err(Refusal::SourceFull);
     }
-    if !find::is_free_cell(recv) {
+    if !store.is_free_cell() {
         return Err(Refusal::NoCell);
     }
     Ok(())
 }
 
-// Rows 8 to 11: the refusal of a chunk of the record that was searched for.
-fn refusal(recv: &[u8], link: usize, index: u64, offset: u64, size: u64) -> Result<(), Refusal>
-    requires { Searched role_receive recv.now link }
-    ensures { answered result ≡ refusal (asks_of (met_at recv.now link) (piece_row index offset size)) }
+// Rows 9 to 11: the refusal of a chunk of a held record.
+#[tactic(auto, unfolding(machine::specs::Layout::rec_of), using(records::specs::RefuseLaws::rows, records::specs::MetLaws::here))]
+fn refusal(held: Held<'_, RECEIVE>, index: u64, offset: u64, size: u64) -> Result<(), Refusal>
+    ensures { let r = held.entry.row in
+        answered result ≡ refusal (piece_row index offset size (rec_in r.store.now r.link)) }
 {
-    if recv[link] == 0 {
-        return Err(Refusal::UnknownId);
-    }
-    let total = field::total(recv, link);
+    let total = held.row.total();
     if !fits(offset, size, total) {
         return Err(Refusal::PastEnd);
     }
@@ -88,10 +89,13 @@ pub fn chunk(
         record { number = answered result; store = recv.new }
         ≡ stepped (refusal (chunk_row index offset (length p) s (found k s.held))) (chunk_step k index p s) b }
 {
-    let link = find::find_held(recv, id);
-    refusal(recv, link, index, offset, piece.len() as u64)?;
-    let spot = pieces::held::piece_link(recv, link, index);
-    cell_refusal(recv, link, spot, index)?;
+    let Some(held) = (Store::<'_, RECEIVE> { bytes: recv }).find(id) else {
+        return Err(Refusal::UnknownId);
+    };
+    refusal(held, index, offset, piece.len() as u64)?;
+    let at = PieceLink::find(held, index);
+    cell_refusal(at)?;
+    let (link, spot) = (held.row.link, at.at);
     pieces::insert::put_piece(recv, link, spot, index, piece);
     Ok(())
 }

@@ -4,19 +4,19 @@ ghost use Rattle.std.specs.Prelude.{◌≡◌, ◌++◌};
 ghost use Rattle.answer.specs.Results.{answered};
 ghost use Rattle.topic.specs.Admission.{admission_of};
 ghost use Rattle.machine.specs.Rules.{number_of};
-ghost use Rattle.machine.specs.Codes.{role_receive};
 ghost use Rattle.machine.specs.Layout.{decode};
 ghost use Rattle.machine.specs.Receive.{found, init_step};
 ghost use Rattle.machine.specs.Refusals.{refusal};
 ghost use Rattle.machine.specs.Valid.{LabelSized};
-ghost use Rattle.records.specs.HeldAt.{met_at, Searched, Receives};
+ghost use Rattle.records.specs.HeldAt.{Receives};
 ghost use Rattle.records.specs.Opening.{new_label};
 ghost use Rattle.records.specs.Step.{stepped};
 ghost use Rattle.machine.specs.Packet.{rules_row, place_row};
 
 use answer::Refusal;
 use packet::label::Label;
-use records::find;
+use records::find::Store;
+use rows::head::RECEIVE;
 use topic::Admission;
 
 // What a rule book says of a topic and a source.
@@ -42,22 +42,19 @@ fn rules_refusal(reply: bool, from: &[u8; 16], topic: &[u8], rules: &[u8]) -> Re
     admission(rules, topic, from)
 }
 
-// Rows 5 to 7: the refusal of an init whose id was searched for.
-fn refusal(recv: &[u8], link: usize, id: &[u8], total: u64) -> Result<(), Refusal>
-    requires { Searched role_receive recv.now link }
-    ensures { let b = recv.now in
-        answered result ≡ refusal (place_row id.now total (decode b) (met_at b link)) }
+// Rows 5 to 7: the refusal of an init.
+#[tactic(auto, using(records::specs::RefuseLaws::rows))]
+fn refusal(recv: Store<'_, RECEIVE>, id: &[u8], total: u64) -> Result<(), Refusal>
+    ensures { let s = decode recv.entry.bytes.now in
+        answered result ≡ refusal (place_row id.now total s (found id.now s.held)) }
 {
-    if find::is_whole(recv, id) {
+    if recv.is_whole(id) {
         return Err(Refusal::AlreadyWhole);
     }
     if total > rows::message::LONGEST {
         return Err(Refusal::TooLong);
     }
-    if recv[link] > 0 {
-        return Ok(());
-    }
-    if find::is_free(recv) {
+    if recv.is_held(id) || recv.is_free() {
         return Ok(());
     }
     Err(Refusal::NoRecord)
@@ -79,15 +76,16 @@ pub fn init(recv: &mut [u8], label: Label, topic: &[u8], rules: &[u8]) -> Result
     let id = label.id;
     let source = label.source;
     rules_refusal(label.reply, &source, topic, rules)?;
-    let link = find::find_held(recv, &id);
-    refusal(recv, link, &id, label.total)?;
-    if recv[link] == 0 {
+    let store = Store::<'_, RECEIVE> { bytes: recv };
+    refusal(store, &id, label.total)?;
+    let Some(held) = store.find(&id) else {
         records::open::open_arriving(recv, label, topic);
         return Ok(());
-    }
-    if records::repeat::says_again(recv, link, label, topic) {
+    };
+    if held.row.says_again(label, topic) {
         return Ok(());
     }
+    let link = held.row.link;
     records::restart::restart(recv, link, label, topic);
     Ok(())
 }

@@ -1,54 +1,49 @@
 // The cells that the records of one source hold, arriving and whole.
 
-ghost use Rattle.std.specs.Prelude.{◌≡◌, ◌++◌, suc, ◌*◌, ◌≤◌, get_or};
+ghost use Rattle.std.specs.Prelude.{◌≡◌, ◌++◌, map, suc, ◌*◌, ◌≤◌};
 ghost use Rattle.machine.specs.Limits.{rec_count, most_cells};
-ghost use Rattle.machine.specs.Layout.{decode};
+ghost use Rattle.machine.specs.Layout.{read_rec, decode};
 ghost use Rattle.machine.specs.Sources.{cells_from, held_by};
-ghost use Rattle.machine_writes.specs.Links.{Links, RecLink};
-ghost use Rattle.records.specs.HeldAt.{rec_in, Reached, Sound};
-ghost use Rattle.inbox.specs.Counted.{recs_from};
+ghost use Rattle.soundness.specs.Places.{places};
 
-use records::field;
-use rows::head::Head;
-use rows::record;
+use records::find::Store;
+use rows::record::Record;
+use soundness::records::{Place, Records};
 
-// How many cells the record that the link at byte `link` leads to holds for a source.
-fn of_record(recv: &[u8], source: &[u8], link: usize) -> u64
-    requires { Links recv.now × Reached recv.now link }
-    ensures { (result ≡ cells_from source.now (rec_in recv.now link)) × (result ≤ suc most_cells) }
+// How many cells a record holds for a source.
+#[tactic(auto, using(crate::proofs::Shares::shares, records::specs::ReadableLaws::reads))]
+fn of_record<const ROLE: u64>(store: Store<'_, ROLE>, source: &[u8], x: Place) -> u64
+    ensures { let r = read_rec store.entry.bytes.now x.number in
+        (result ≡ cells_from source.now r) × (result ≤ suc most_cells) }
 {
-    if !octets::equal(source, field::source(recv, link)) {
+    let headed = store.headed();
+    let row = headed.record(x);
+    if !octets::equal(source, &row[Record::SOURCE..Record::DESTINATION]) {
         return 0;
     }
-    pieces::walk::cells(recv, field::first_cell(recv, link))
+    pieces::walk::count(headed.pieces(usize::from(row[Record::FIRST_CELL])))
 }
 
-// How many cells the records of a chain hold for a source, from the link at byte `link` on.
-fn of_chain(recv: &[u8], source: &[u8], link: usize) -> u64
-    requires { Links recv.now × RecLink recv.now link }
-    ensures { let b = recv.now in
-        (result ≡ held_by source.now (recs_from b (get_or b link 0))) × (result ≤ suc most_cells * suc rec_count) }
+// How many cells the records of a chain hold for a source.
+#[tactic(auto, using(crate::proofs::Shares::shares))]
+fn of_chain<const ROLE: u64>(store: Store<'_, ROLE>, source: &[u8], records: Records<'_>) -> u64
+    ensures { let all = map (read_rec store.entry.bytes.now) (places records.entry) in
+        (result ≡ held_by source.now all) × (result ≤ suc most_cells * suc rec_count) }
 {
-    let mut here = link;
     let mut sum: u64 = 0;
-    for n in 0..record::STEPS {
-        let place = usize::from(recv[here]);
-        if place == 0 {
-            return sum;
-        }
-        sum += of_record(recv, source, here);
-        here = record::record_at(place);
+    for x in records {
+        sum += of_record(store, source, x);
     }
     sum
 }
 
 // How many cells a source holds.
-pub fn of_source(recv: &[u8], source: &[u8]) -> u64
-    requires { Sound recv.now }
-    ensures { let s = decode recv.now in
+#[tactic(auto, using(crate::proofs::Shares::shares))]
+pub fn of_source<const ROLE: u64>(store: Store<'_, ROLE>, source: &[u8]) -> u64
+    ensures { let s = decode store.entry.bytes.now in
         result ≡ held_by source.now (s.held ++ s.whole) }
 {
-    let held = of_chain(recv, source, Head::HELD);
-    let whole = of_chain(recv, source, Head::WHOLE);
+    let held = of_chain(store, source, store.held());
+    let whole = of_chain(store, source, store.whole());
     held + whole
 }

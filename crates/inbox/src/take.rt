@@ -14,44 +14,54 @@ ghost use Rattle.inbox.specs.Oldest.{Oldest};
 
 use answer::{Done, Refusal};
 use packet::{header, run};
-use records::field;
-use rows::head::Head;
+use records::find::Store;
+use records::row::Row;
+use rows::head::{Head, RECEIVE};
 use rows::record;
 
 // What a read packet takes in a run.
 const READ_ROOM: usize = run::PACKET + header::SIZE;
 
-// The read packet of the oldest whole message, from its destination to its source.
-fn put_read(recv: &[u8], run: &mut [u8])
-    requires { Oldest recv.now × (take_room ≤ length run.old) }
-    ensures { let h = (rec_in recv.now whole_at).label in
-        run.new
-        ≡ put run.old 0 (entry h.destination h.source (read_packet h.id)) }
-{
-    run::put_header(
-        run,
-        0,
-        field::destination(recv, Head::WHOLE),
-        field::source(recv, Head::WHOLE),
-        field::id(recv, Head::WHOLE),
-        header::FLAG_READ,
-    );
+// The record of the oldest whole message of a sound store, to be read.
+#[derive(Clone, Copy)]
+struct Whole<'a> {
+    row: Row<'a>,
+    ghost oldest: { Oldest row.store.now },
+    ghost first: { row.link ≡ whole_at },
 }
 
-// The oldest whole record as it stands, then its data.
-fn put_message(recv: &[u8], taken: &mut [u8])
-    requires { Oldest recv.now
-        × (rec_bytes + (rec_in recv.now whole_at).label.total ≤ length taken.old) }
-    ensures { let b = recv.now in
-        taken.new
-        ≡ put taken.old 0 (row_in b whole_at ++ joined (rec_in b whole_at).cells) }
-{
-    octets::copy_in(taken, 0, field::whole_row(recv, Head::WHOLE));
-    pieces::walk::join(
-        recv,
-        field::first_cell(recv, Head::WHOLE),
-        &mut taken[record::BYTES..],
-    );
+impl<'a> Whole<'a> {
+    // Its read packet, from its destination to its source.
+    fn put_read(self, run: &mut [u8])
+        requires { take_room ≤ length run.old }
+        ensures { let row = self.entry.row in
+            let h = (rec_in row.store.now row.link).label in
+            run.new ≡ put run.old 0 (entry h.destination h.source (read_packet h.id)) }
+    {
+        run::put_header(
+            run,
+            0,
+            self.row.destination(),
+            self.row.source(),
+            self.row.id(),
+            header::FLAG_READ,
+        );
+    }
+
+    // Its record as it stands, then its data.
+    fn put_message(self, taken: &mut [u8])
+        requires { rec_bytes + (rec_in self.row.store.now self.row.link).label.total ≤ length taken.old }
+        ensures { let row = self.entry.row in
+            let b = row.store.now in
+            taken.new ≡ put taken.old 0 (row_in b row.link ++ joined (rec_in b row.link).cells) }
+    {
+        octets::copy_in(taken, 0, self.row.whole_row());
+        let store = Store::<'a, RECEIVE> {
+            bytes: self.row.store,
+        };
+        let pieces = store.headed().pieces(self.row.first_cell());
+        pieces::walk::join(pieces, &mut taken[record::BYTES..]);
+    }
 }
 
 // Takes the oldest whole message out: its record and its data into `taken`, its read packet into `run`.
@@ -75,12 +85,18 @@ pub fn take(recv: &mut [u8], taken: &mut [u8], run: &mut [u8]) -> Result<Done, R
     if run.len() < READ_ROOM {
         return Err(Refusal::ShortOutput);
     }
-    let total = field::total(recv, Head::WHOLE) as usize;
+    let whole = Whole {
+        row: Row {
+            store: recv,
+            link: Head::WHOLE,
+        },
+    };
+    let total = whole.row.total() as usize;
     if taken.len() < record::BYTES + total {
         return Err(Refusal::ShortOutput);
     }
-    put_read(recv, run);
-    put_message(recv, taken);
+    whole.put_read(run);
+    whole.put_message(taken);
     records::release::take_first(recv);
     Ok(Done {
         run: READ_ROOM as u64,

@@ -15,8 +15,6 @@ use Rattle.machine.specs.Report.{report_of, report_room}
 use Rattle.lesson.specs.Room.{Room}
 use Rattle.lesson.specs.Lesson.{survey_id, round}
 use Rattle.lesson.specs.Text.{decimal_of, item, line_from, line_of, lines_from, rounds}
-use Rattle.lesson.specs.Steps.{room_with}
-use Rattle.lesson.specs.declared.room.Nodes.{Nodes}
 use Rattle.script.specs.Input.{digit_zero}
 use Rattle.script.specs.Decimal.{digits_of}
 use Rattle.script.specs.Decimal as script
@@ -93,41 +91,38 @@ take_more b c v at r e f h =
     let n : length (take at b ++ v) ≡ r = length-append (take at b) v ∙ omega (arith, length-take-le at b (omega (arith, f, h))) in
     ap (take r) e ∙ take_at (take at b ++ v) (drop (at + length v) b) r n
 
--- after the rounds before k the text up to `end` and the lines of the rounds from k on are the goal
-pub record Showing (at : ℕ) (goal : List ℕ) (nodes : Nodes) (l b : List ℕ) (k end : ℕ) : Type 0 where
+-- after the rounds before k the text up to `end` and the lines of the rounds from k on, in the room s, are the goal
+pub record Showing (at : ℕ) (goal : List ℕ) (s : Room) (b : List ℕ) (k end : ℕ) : Type 0 where
   pub first : 1 ≤ k
   pub last : k ≤ 51
   pub reach : end + 20 * (51 - k) ≤ at + 20 * rounds
-  pub gives : take end b ++ lines_from (51 - k) k (room_with nodes [] l) ≡ goal
+  pub gives : take end b ++ lines_from (51 - k) k s ≡ goal
 
-pub showing-more : (at : ℕ) (goal : List ℕ) (nodes : Nodes) (l b : List ℕ) (k end : ℕ) (nodes' : Nodes) (l' c : List ℕ) (end' : ℕ)
-    → Showing at goal nodes l b k end → k ≤ 50 → at + 20 * rounds ≤ length b
-    → room_with nodes' [] l' ≡ round k (room_with nodes [] l)
-    → Wrote b c end end' (line_of k nodes'.tablet.send) 20 → Showing at goal nodes' l' c (k + 1) end'
+pub showing-more : (at : ℕ) (goal : List ℕ) (s : Room) (b : List ℕ) (k end : ℕ) (s' : Room) (c : List ℕ) (end' : ℕ)
+    → Showing at goal s b k end → k ≤ 50 → at + 20 * rounds ≤ length b → s' ≡ round k s
+    → Wrote b c end end' (line_of k s'.tablet.send) 20 → Showing at goal s' c (k + 1) end'
 unfolding lines_from
-showing-more at goal nodes l b k end nodes' l' c end' s h f r w =
-    let reach = s.reach in
-    let ts = nodes'.tablet.send in
-    let s₁ : Room = room_with nodes [] l in
-    let s₂ : Room = room_with nodes' [] l' in
+showing-more at goal s b k end s' c end' p h f r w =
+    let reach = p.reach in
+    let ts = s'.tablet.send in
     let z : 51 - k ≡ suc (51 - (k + 1)) = omega arith in
     let written : take end' c ≡ take end b ++ line_of k ts = take_more b c (line_of k ts) end end' w.0 w.1 (omega (arith, w.2)) in
-    let turn : lines_from (51 - k) k s₁ ≡ line_of k ts ++ lines_from (51 - (k + 1)) (k + 1) s₂ = ap (λ (n : ℕ). lines_from n k s₁) z
+    let turn : lines_from (51 - k) k s ≡ line_of k ts ++ lines_from (51 - (k + 1)) (k + 1) s' = ap (λ (n : ℕ). lines_from n k s) z
     ∙ (λ i. line_of k (sym r i).tablet.send ++ lines_from (51 - (k + 1)) (sym (add-one k) i) (sym r i)) in
     record {
       first = omega arith;
       last = omega arith;
       reach = omega (arith, w.2);
       gives =
-          ap (λ (x : List ℕ). x ++ lines_from (51 - (k + 1)) (k + 1) s₂) written
-          ∙ append_assoc (take end b) (line_of k ts) (lines_from (51 - (k + 1)) (k + 1) s₂) ∙ ap (λ (x : List ℕ). take end b ++ x) (sym turn) ∙
-          s.gives;
+          ap (λ (x : List ℕ). x ++ lines_from (51 - (k + 1)) (k + 1) s') written
+          ∙ append_assoc (take end b) (line_of k ts) (lines_from (51 - (k + 1)) (k + 1) s') ∙ ap (λ (x : List ℕ). take end b ++ x) (sym turn) ∙
+          p.gives;
     }
 
-pub showing-none : (at : ℕ) (goal : List ℕ) (nodes : Nodes) (l b : List ℕ) (k end : ℕ) → Showing at goal nodes l b k end → 50 < k
+pub showing-none : (at : ℕ) (goal : List ℕ) (s : Room) (b : List ℕ) (k end : ℕ) → Showing at goal s b k end → 50 < k
     → (take end b ≡ goal) × (end ≤ at + 20 * rounds)
 unfolding lines_from
-showing-none at goal nodes l b k end s h =
-    let reach = s.reach in
+showing-none at goal s b k end p h =
+    let reach = p.reach in
     let z : 51 - k ≡ 0 = omega arith in
-    (sym (ap (λ (n : ℕ). take end b ++ lines_from n k (room_with nodes [] l)) z ∙ append-nil (take end b)) ∙ s.gives, omega arith)
+    (sym (ap (λ (n : ℕ). take end b ++ lines_from n k s) z ∙ append-nil (take end b)) ∙ p.gives, omega arith)

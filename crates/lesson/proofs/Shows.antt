@@ -18,8 +18,7 @@ use Rattle.script.specs.Input.{decimal, line, is_input, length_of, letters_of}
 use Rattle.lesson.specs.Lesson.{fresh_store, fresh, pushed}
 use Rattle.lesson.specs.Text.{line_of, lines_from, rounds, lesson_of}
 use Rattle.lesson.specs.Classroom.{classroom_of}
-use Rattle.lesson.specs.declared.room.Nodes.{Nodes}
-use Rattle.lesson.specs.Steps.{room_of, room_with}
+use Rattle.lesson.specs.Room.{Room}
 use Rattle.lesson.proofs.Lines.{Wrote, take_more}
 
 -- ---- the lines of a lesson
@@ -29,18 +28,12 @@ pub store-fresh : (b : List ℕ) (role : ℕ) (o : SetupOutcome) → o ≡ setup
 unfolding fresh_store
 store-fresh b role o e f = ap (λ (x : SetupOutcome). x.store) e ∙ ap (λ (l : List ℕ). (setup_of l role).store) f
 
-pub lesson-is : (n : ℕ) (l rest b c d : List ℕ) (start nodes : Nodes) (end r : ℕ)
-    → start.tablet.recv ≡ fresh_store 1 → start.tablet.send ≡ fresh_store 2 → start.office.recv ≡ fresh_store 1 → start.office.send ≡ fresh_store 2
-    → room_with nodes [] rest ≡ pushed n (room_with start [] l) → Wrote b c 0 end (line_of 0 nodes.tablet.send) 20 → 1020 ≤ length b
-    → (take r d ≡ take end c ++ lines_from rounds 1 (room_with nodes [] rest)) × (r ≤ end + 20 * rounds)
-    → (take r d ≡ lesson_of n l) × (r ≤ 1020)
+pub lesson-is : (n : ℕ) (l b c d : List ℕ) (s : Room) (end r : ℕ) → s ≡ pushed n (fresh l) → Wrote b c 0 end (line_of 0 s.tablet.send) 20
+    → 1020 ≤ length b → (take r d ≡ take end c ++ lines_from rounds 1 s) × (r ≤ end + 20 * rounds) → (take r d ≡ lesson_of n l) × (r ≤ 1020)
 unfolding lesson_of
-lesson-is n l rest b c d start nodes end r e f g h p w k q =
-    let s : room_with nodes [] rest ≡ pushed n (fresh l) = p ∙ (λ i. pushed n (room_of (e i) (f i) (g i) (h i) [] l)) in
-    let first : take end c ≡ line_of 0 nodes.tablet.send =
-    take_more b c (line_of 0 nodes.tablet.send) 0 end w.0 w.1 (omega (arith, w.2)) in (
-      q.0 ∙ ap (λ (x : List ℕ). x ++ lines_from rounds 1 (room_with nodes [] rest)) first
-          ∙ (λ i. line_of 0 (s i).tablet.send ++ lines_from rounds 1 (s i)),
+lesson-is n l b c d s end r p w k q =
+    let first : take end c ≡ line_of 0 s.tablet.send = take_more b c (line_of 0 s.tablet.send) 0 end w.0 w.1 (omega (arith, w.2)) in (
+      q.0 ∙ ap (λ (x : List ℕ). x ++ lines_from rounds 1 s) first ∙ (λ i. line_of 0 (p i).tablet.send ++ lines_from rounds 1 (p i)),
       omega (arith, q.1, w.2),
     )
 

@@ -8,6 +8,7 @@ use Rattle.link.specs.Entries.{entries_of, frame_of}
 use Rattle.link.specs.Link.{through}
 use Rattle.link.specs.Stored.{stored, Waits}
 use Rattle.lesson.specs.declared.room.Nodes.{Nodes}
+use Rattle.lesson.specs.declared.room.Room.{Room as HeldRoom}
 use Rattle.lesson.specs.Room.{Node, Room, reply_of}
 
 abbrev pub node_of : List ℕ → List ℕ → Node
@@ -25,6 +26,10 @@ room_of tr ts or os queue letters =
 -- .. the same of the nodes' stores
 abbrev pub room_with : Nodes → List (List ℕ) → List ℕ → Room
 room_with n = room_of n.tablet.recv n.tablet.send n.office.recv n.office.send
+
+-- .. and of the room while no packet waits
+abbrev pub at_rest : HeldRoom → Room
+at_rest r = room_with r.nodes [] r.letters.now
 
 -- how many packets may get a reply: those that are no acknowledgement
 abbrev pub asks : List ℕ → ℕ

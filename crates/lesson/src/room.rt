@@ -1,6 +1,6 @@
 // The room: packets are delivered to the node that they are addressed to, until none waits.
 
-ghost use Rattle.std.specs.Prelude.{◌≡◌, List, [], ◌∷◌, ℕ, ◌+◌, ◌-◌, ◌*◌, ◌≤◌, length, take, drop, replicate};
+ghost use Rattle.std.specs.Prelude.{◌≡◌, List, ◌∷◌, ℕ, ◌+◌, ◌-◌, ◌*◌, ◌≤◌, length, take, drop, replicate};
 ghost use Rattle.octets.specs.Octets.{same};
 ghost use Rattle.answer.specs.Results.{answer_of};
 ghost use Rattle.machine.specs.Packet.{packet_room};
@@ -8,8 +8,8 @@ ghost use Rattle.machine.specs.Wake.{send_wake_room};
 ghost use Rattle.link.specs.Entries.{to_of};
 ghost use Rattle.link.specs.Link.{put_out};
 ghost use Rattle.lesson.specs.Room.{office_address, arrived, deliver_first, settled};
-ghost use Rattle.lesson.specs.Lesson.{fresh_store};
-ghost use Rattle.lesson.specs.Steps.{node_of, room_with, asks, replies_room};
+ghost use Rattle.lesson.specs.Lesson.{fresh_store, fresh};
+ghost use Rattle.lesson.specs.Steps.{node_of, room_with, at_rest, asks, replies_room};
 ghost use Rattle.lesson.specs.Steps.{Handed, SomeReady, Ready, Delivered};
 
 use answer::{Done, Refusal};
@@ -63,6 +63,13 @@ impl Stores {
 pub struct Nodes {
     pub tablet: Stores,
     pub office: Stores,
+}
+
+// The room while no packet waits: the nodes, and the letters to come.
+#[derive(Drop)]
+pub struct Room<'a> {
+    pub nodes: Nodes,
+    pub letters: &'a [u8],
 }
 
 // The queue in its buffer: its first packet stands at the head, and its end and the letters to come are a mark.
@@ -152,29 +159,45 @@ fn deliver(nodes: &mut Nodes, queue: &mut Queue<'_>)
     hand_over(&mut nodes.tablet, queue, start, next);
 }
 
-// A run of the tablet's is put out, and all that waits is delivered, with the replies; answers the letters to
-// come.
-pub fn settle<'a>(nodes: &mut Nodes, letters: &'a [u8], run: &[u8]) -> &'a [u8]
-    requires { length run.now ≤ send_wake_room }
-    ensures { let before = room_with nodes.old [] letters.now in
-        room_with nodes.new [] result.now
-        ≡ settled (record {
-          tablet = before.tablet;
-          office = before.office;
-          link = put_out run.now before.link;
-        }) }
-{
-    let mark = Mark { tail: 0, letters };
-    let mut queue = Queue {
-        bytes: [0; QUEUE],
-        head: 0,
-        mark,
-    };
-    queue.mark = queue::put_all(&mut queue.bytes, mark, run);
-    let mut left: usize = DELIVERIES;
-    while queue.head < queue.mark.tail {
-        deliver(nodes, &mut queue);
-        left -= 1;
+impl<'a> Room<'a> {
+    // Fresh nodes, and all of the letters to come.
+    pub fn fresh(letters: &'a [u8]) -> Room<'a>
+        ensures { at_rest result ≡ fresh letters.now }
+    {
+        let nodes = Nodes {
+            tablet: Stores::fresh(),
+            office: Stores::fresh(),
+        };
+        Room { nodes, letters }
     }
-    queue.mark.letters
+
+    // A run of the tablet's is put out, and all that waits is delivered, with the replies.
+    pub fn settle(&mut self, run: &[u8])
+        requires { length run.now ≤ send_wake_room }
+        ensures { let before = at_rest self.old in
+            at_rest self.new
+            ≡ settled (record {
+              tablet = before.tablet;
+              office = before.office;
+              link = put_out run.now before.link;
+            }) }
+    {
+        let mark = Mark {
+            tail: 0,
+            letters: self.letters,
+        };
+        let mut queue = Queue {
+            bytes: [0; QUEUE],
+            head: 0,
+            mark,
+        };
+        queue.mark = queue::put_all(&mut queue.bytes, mark, run);
+        let mut left: usize = DELIVERIES;
+        // no `for`: each delivery may put more packets behind the last one
+        while queue.head < queue.mark.tail {
+            deliver(&mut self.nodes, &mut queue);
+            left -= 1;
+        }
+        self.letters = queue.mark.letters;
+    }
 }

@@ -5,8 +5,8 @@ ghost use Rattle.machine.specs.Limits.{longest};
 ghost use Rattle.lesson.specs.Text.{lesson_of};
 ghost use Rattle.lesson.specs.Classroom.{classroom_of};
 
-use crate::room::{Nodes, Stores};
-use crate::{run, text};
+use crate::room::Room;
+use crate::text;
 use script::Script;
 
 // The most bytes of text: 51 lines of 20.
@@ -17,13 +17,10 @@ fn lesson(n: usize, letters: &[u8], lines: &mut [u8]) -> usize
     requires { (n ≤ longest) × (1020 ≤ length lines.old) }
     ensures { (take result lines.new ≡ lesson_of n letters.now) × (result ≤ 1020) }
 {
-    let mut nodes = Nodes {
-        tablet: Stores::fresh(),
-        office: Stores::fresh(),
-    };
-    let letters = run::push(&mut nodes, letters, n);
-    let end = text::put_line(lines, 0, 0, &nodes.tablet.send);
-    text::put_rounds(&mut nodes, letters, lines, end)
+    let mut room = Room::fresh(letters);
+    room.push(n);
+    let end = text::put_line(lines, 0, 0, &room.nodes.tablet.send);
+    text::put_rounds(&mut room, lines, end)
 }
 
 // What is printed for what was read; answers how long it is.

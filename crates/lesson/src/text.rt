@@ -1,12 +1,12 @@
 // What is printed: lines of five numbers.
 // A text is a buffer and a place in it: memory is fixed, and a contract says what is put at that place.
 
-ghost use Rattle.std.specs.Prelude.{◌≡◌, [], ◌++◌, ◌+◌, ◌*◌, ◌≤◌, length, take};
+ghost use Rattle.std.specs.Prelude.{◌≡◌, ◌++◌, ◌+◌, ◌*◌, ◌≤◌, length, take};
 ghost use Rattle.octets.specs.Octets.{put};
 ghost use Rattle.lesson.specs.Text.{item, line_of, lines_from, rounds};
-ghost use Rattle.lesson.specs.Steps.{room_with};
+ghost use Rattle.lesson.specs.Steps.{at_rest};
 
-use crate::room::Nodes;
+use crate::room::Room;
 use crate::run;
 
 const ROUNDS: u8 = 50;
@@ -38,17 +38,16 @@ pub fn put_line(text: &mut [u8], at: usize, k: u8, send: &[u8]) -> usize
 }
 
 // The rounds, and the line of each; answers where the last ends.
-pub fn put_rounds(nodes: &mut Nodes, letters: &[u8], text: &mut [u8], at: usize) -> usize
+pub fn put_rounds(room: &mut Room<'_>, text: &mut [u8], at: usize) -> usize
     requires { at + 20 * rounds ≤ length text.old }
     ensures { (take result text.new
-        ≡ take at text.old ++ lines_from rounds 1 (room_with nodes.old [] letters.now))
+        ≡ take at text.old ++ lines_from rounds 1 (at_rest room.old))
         × (result ≤ at + 20 * rounds) }
 {
-    let mut to_come = letters;
     let mut end = at;
     for k in 1..=ROUNDS {
-        to_come = run::round(nodes, to_come, k);
-        end = put_line(text, end, k, &nodes.tablet.send);
+        room.round(k);
+        end = put_line(text, end, k, &room.nodes.tablet.send);
     }
     end
 }

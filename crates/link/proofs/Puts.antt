@@ -4,19 +4,19 @@ use native.Mathlib.Omega.{arith}
 use mathlib.Core.Path.{◌≡◌, refl, sym, ap, ◌∙◌}
 use mathlib.Core.Bool.{Bool, cond}
 use mathlib.Core.List.{List, [], ◌∷◌, ◌++◌, append-nil}
-use lib.ListN.{length, take, drop, length-append, length-drop}
+use lib.ListN.{length, drop, length-append}
 use lib.Seq.{drop-drop}
 use lib.Dec.{eqb}
 use borrow.Author.Tests.{eq-eqb, ne_eqb}
+use Rattle.octets.specs.Lists.{All}
 use Rattle.octets.specs.Octets.{put, be}
 use Rattle.octets.specs.NumbersLaws.{length-be}
 use Rattle.octets.specs.PartsLaws.{more, put-nil, put-put}
 use Rattle.script.specs.Input.{lost, repeated}
 use Rattle.link.specs.Entries.{entries_of}
-use Rattle.link.specs.EntriesLaws.{entries-more, entries_none}
 use Rattle.link.specs.Link.{copies, next_letter, through}
-use Rattle.link.specs.Stored.{stored_entry, stored, Ends}
-use Rattle.link.specs.StoredLaws.{entry_length, stored-append, stored-length, copies_length}
+use Rattle.link.specs.Stored.{stored_entry, stored, Small}
+use Rattle.link.specs.StoredLaws.{entry_length, stored-append, stored-length, copies_length, run_small}
 
 -- ---- an entry is kept: its number of bytes, then itself
 
@@ -74,71 +74,57 @@ out-twice b m c e tail s t x y f h k r g i j l =
 
 -- ---- a run: what is left from here gives what the whole gives
 
--- the bytes that a run adds
-abbrev pub added : List ℕ → List ℕ → List ℕ
-added run l = stored (through (entries_of run) l)
+-- the bytes that entries add
+abbrev pub added : List (List ℕ) → List ℕ → List ℕ
+added es l = stored (through es l)
 
--- l₀: the letters at the start, l: those to come, r: the rest of the run
-pub record Putting (b₀ : List ℕ) (tail : ℕ) (l₀ run b r : List ℕ) (end : ℕ) (l : List ℕ) : Type 0 where
-  pub short : length r ≤ length run
-  pub kept : length b ≡ length b₀
-  pub room : end + 2 * length (stored (entries_of r)) ≤ length b₀
-  pub queue : put b end (added r l) ≡ put b₀ tail (added run l₀)
-  pub ends : end + length (added r l) ≡ tail + length (added run l₀)
-  pub letters : drop (length (entries_of r)) l ≡ drop (length (entries_of run)) l₀
-
--- the first entry of what is left, and those behind it
-pub next-entry : (r : List ℕ) (n : ℕ) → 0 < length r → Ends r n → entries_of r ≡ take n r ∷ entries_of (drop n r)
-next-entry r n h d = entries-more r h ∙ (λ i. sym d.first i ∷ entries_of (sym d.rest i))
-
-pub entry-room : (r : List ℕ) (n : ℕ) → 0 < length r → Ends r n
-    → length (stored (entries_of r)) ≡ 2 + length (take n r) + length (stored (entries_of (drop n r)))
-entry-room r n h d =
-    ap (λ (es : List (List ℕ)). length (stored es)) (next-entry r n h d) ∙ stored-length (take n r) (entries_of (drop n r))
-
-added_more : (l e : List ℕ) (es fs : List (List ℕ)) → fs ≡ e ∷ es
-    → stored (through fs l) ≡ stored (copies (next_letter l) e) ++ stored (through es (drop 1 l))
+added_more : (e : List ℕ) (es : List (List ℕ)) (l : List ℕ)
+    → added (e ∷ es) l ≡ stored (copies (next_letter l) e) ++ added es (drop 1 l)
 unfolding through
-added_more l e es fs h = ap (λ (x : List (List ℕ)). stored (through x l)) h ∙ stored-append (copies (next_letter l) e) (through es (drop 1 l))
+added_more e es l = stored-append (copies (next_letter l) e) (through es (drop 1 l))
 
-letters-more : (l e : List ℕ) (es fs : List (List ℕ)) → fs ≡ e ∷ es → drop (length fs) l ≡ drop (length es) (drop 1 l)
-letters-more l e es fs h =
-    ap (λ (x : List (List ℕ)). drop (length x) l) h ∙ (let z : suc (length es) ≡ 1 + length es = omega arith in ap (λ (n : ℕ). drop n l) z)
-    ∙ sym (drop-drop (length es) 1 l)
+-- l₀: the letters at the start, l: those to come, all: the entries of the run, es: those that are left
+pub record Putting (b₀ : List ℕ) (tail : ℕ) (l₀ : List ℕ) (all : List (List ℕ)) (b : List ℕ) (es : List (List ℕ)) (end : ℕ) (l : List ℕ) : Type 0 where
+  pub small : All Small es
+  pub kept : length b ≡ length b₀
+  pub room : end + 2 * length (stored es) ≤ length b₀
+  pub queue : put b end (added es l) ≡ put b₀ tail (added all l₀)
+  pub ends : end + length (added es l) ≡ tail + length (added all l₀)
+  pub letters : drop (length es) l ≡ drop (length all) l₀
 
-pub putting-more : (b₀ : List ℕ) (tail : ℕ) (l₀ run b r : List ℕ) (end : ℕ) (l c : List ℕ) (n end' : ℕ) (l' : List ℕ)
-    → Putting b₀ tail l₀ run b r end l → 0 < length r → Ends r n → After b c end end' (copies (next_letter l) (take n r)) → length c ≡ length b
-    → l' ≡ drop 1 l → Putting b₀ tail l₀ run c (drop n r) end' l'
-putting-more b₀ tail l₀ run b r end l c n end' l' p h d a k f =
-    let es : List (List ℕ) = entries_of (drop n r) in
-    let first = next-entry r n h d in
-    let A : List ℕ = stored (copies (next_letter l) (take n r)) in
-    let B : List ℕ = stored (through es l') in
-    let both : added r l ≡ A ++ B = added_more l (take n r) es (entries_of r) first ∙ ap (λ (x : List ℕ). A ++ stored (through es x)) (sym f) in
-    let size = entry-room r n h d in
-    let least = copies_length (next_letter l) (take n r) in
-    let room = p.room in
-    let same = p.kept in
-    record {
-      short = omega (arith, p.short, length-drop n r);
-      kept = k ∙ p.kept;
-      room = omega (arith, a.1);
-      queue = ap (λ (x : List ℕ). put x end' B) a.0 ∙ put-put b end end' A B (omega arith) a.1 ∙ ap (put b end) (sym both) ∙ p.queue;
-      ends = omega (arith, a.1, p.ends, ap length both ∙ length-append A B);
-      letters = ap (drop (length es)) f ∙ sym (letters-more l (take n r) es (entries_of r) first) ∙ p.letters;
-    }
+pub putting-start : (b : List ℕ) (tail : ℕ) (l run : List ℕ) → tail + 2 * length (stored (entries_of run)) ≤ length b → length run < 65536
+    → Putting b tail l (entries_of run) b (entries_of run) tail l
+putting-start b tail l run h k = record { small = run_small run k; kept = refl; room = h; queue = refl; ends = refl; letters = refl }
 
-pub putting-none : (b₀ : List ℕ) (tail : ℕ) (l₀ run b r : List ℕ) (end : ℕ) (l : List ℕ) → Putting b₀ tail l₀ run b r end l → length r ≡ 0
-    → (b ≡ put b₀ tail (added run l₀)) × (end ≡ tail + length (added run l₀)) × (l ≡ drop (length (entries_of run)) l₀)
+module _ {b₀ : List ℕ} {tail : ℕ} {l₀ : List ℕ} {all : List (List ℕ)} {b : List ℕ} {end : ℕ} {l e : List ℕ} {es : List (List ℕ)}
+    (p : Putting b₀ tail l₀ all b (e ∷ es) end l) where
+  -- the first entry has room
+  pub putting_room : (end + 2 * (2 + length e) ≤ length b) × (length e < 65536)
+  putting_room = let r = p.room in let k = p.kept in (omega (arith, stored-length e es), p.small.0)
+
+  -- it is put out
+  pub putting-more : {c : List ℕ} {end' : ℕ} {l' : List ℕ} → After b c end end' (copies (next_letter l) e) → length c ≡ length b → l' ≡ drop 1 l
+      → Putting b₀ tail l₀ all c es end' l'
+  putting-more {c} {end'} {l'} a k f =
+      let A : List ℕ = stored (copies (next_letter l) e) in
+      let B : List ℕ = added es l' in
+      let both : added (e ∷ es) l ≡ A ++ B = added_more e es l ∙ ap (λ (x : List ℕ). A ++ added es x) (sym f) in
+      let size = stored-length e es in
+      let least = copies_length (next_letter l) e in
+      let room = p.room in
+      let same = p.kept in
+      let z : suc (length es) ≡ 1 + length es = omega arith in
+      record {
+        small = p.small.1;
+        kept = k ∙ p.kept;
+        room = omega (arith, a.1);
+        queue = ap (λ (x : List ℕ). put x end' B) a.0 ∙ put-put b end end' A B (omega arith) a.1 ∙ ap (put b end) (sym both) ∙ p.queue;
+        ends = omega (arith, a.1, p.ends, ap length both ∙ length-append A B);
+        letters = ap (drop (length es)) f ∙ drop-drop (length es) 1 l ∙ ap (λ (n : ℕ). drop n l) (sym z) ∙ p.letters;
+      }
+
+pub putting-none : {b₀ : List ℕ} {tail : ℕ} {l₀ : List ℕ} {all : List (List ℕ)} {b : List ℕ} {end : ℕ} {l : List ℕ}
+    → Putting b₀ tail l₀ all b [] end l
+    → (b ≡ put b₀ tail (added all l₀)) × (end ≡ tail + length (added all l₀)) × (l ≡ drop (length all) l₀)
 unfolding through stored
-putting-none b₀ tail l₀ run b r end l p h =
-    let none : entries_of r ≡ [] = entries_none r h in
-    let nothing : added r l ≡ [] = ap (λ (es : List (List ℕ)). stored (through es l)) none in (
-      sym (put-nil b end) ∙ ap (put b end) (sym nothing) ∙ p.queue,
-      omega (arith, p.ends, ap length nothing),
-      sym (ap (λ (es : List (List ℕ)). drop (length es) l) none) ∙ p.letters,
-    )
-
-pub putting-start : (b : List ℕ) (tail : ℕ) (l run : List ℕ) → tail + 2 * length (stored (entries_of run)) ≤ length b
-    → Putting b tail l run b run tail l
-putting-start b tail l run h = record { short = omega arith; kept = refl; room = h; queue = refl; ends = refl; letters = refl }
+putting-none {b₀} {tail} {l₀} {all} {b} {end} {l} p = (sym (put-nil b end) ∙ p.queue, omega (arith, p.ends), p.letters)

@@ -1,11 +1,12 @@
 -- Laws of bytes that are cut at their end. Assumes nothing.
-use Rattle.std.proofs.Common.{ℕ, ◌+◌, ◌-◌, ◌*◌, ◌≡◌, sym, ap, ◌∙◌, List, length, get_or, take, drop, leb, min, arith, length-drop}
+use Rattle.std.proofs.Common.{ℕ, ◌+◌, ◌-◌, ◌*◌, ◌<◌, ◌≡◌, sym, ap, ◌∙◌, List, ◌∷◌, length, get_or, take, drop, leb, min, arith, length-drop}
 use Rattle.std.proofs.lemmas.List.{take_all}
 use Rattle.std.proofs.lemmas.Bool.{leb-true, leb-false}
 use lib.ListN.{drop_of_length-le}
 use Rattle.octets.specs.BoolsLaws.{cases}
 use Rattle.octets.specs.Octets.{part, num}
-use Rattle.link.specs.Entries.{entry_end}
+use Rattle.link.specs.Entries.{entry_end, entries_of}
+use Rattle.link.specs.EntriesLaws.{entries-more, entries_none}
 use Rattle.link.specs.Stored.{Ends}
 
 -- a place past the end is the end
@@ -29,12 +30,18 @@ ends-min s x r e h = record {
   first = take-min s x r h ∙ ap (λ (k : ℕ). take k s) e;
   rest = drop-min s x r h ∙ ap (λ (k : ℕ). drop k s) e;
   within = omega (arith, h);
-  some = λ k. omega (arith, e, h);
 }
 
 pub entry-end : (s : List ℕ) (x y : ℕ) → x ≡ get_or s 0 0 → y ≡ get_or s 1 0 → 34 + (256 * x + y) ≡ entry_end s
 unfolding entry_end num
 entry-end s x y e f = omega (arith, e, f)
+
+-- the first entry, and those behind it
+pub next-entry : (s : List ℕ) (r : ℕ) → 0 < length s → Ends s r → entries_of s ≡ take r s ∷ entries_of (drop r s)
+next-entry s r h d = entries-more s h ∙ (λ i. sym d.first i ∷ entries_of (sym d.rest i))
+
+-- what a step over the entries cites
+pub ruleset steps = (next-entry, entries_none)
 
 -- ---- a part, cut at the end
 

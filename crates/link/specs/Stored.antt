@@ -27,4 +27,3 @@ pub record Ends (run : List ℕ) (r : ℕ) : Type 0 where
   pub first : take r run ≡ first_of run
   pub rest : drop r run ≡ rest_of run
   pub within : r ≤ length run
-  pub some : 0 < length run → 0 < r

@@ -1,10 +1,10 @@
-// The entries of a run: where the first ends, and an entry's parts as the packet call takes them.
+// The entries of a run, one after the other, and an entry's parts as the packet call takes them.
 // Any bytes will do: what is missing of an address counts as 0, and a frame is what is there.
 
-ghost use Rattle.std.specs.Prelude.{◌≡◌, ◌<◌, ◌≤◌, get_or};
+ghost use Rattle.std.specs.Prelude.{◌≡◌, ◌<◌, ◌≤◌, length, get_or, eqb};
 ghost use Rattle.octets.specs.Octets.{part};
 ghost use Rattle.packet.specs.Frame.{address_size};
-ghost use Rattle.link.specs.Entries.{filled, from_of, to_of, frame_of};
+ghost use Rattle.link.specs.Entries.{entry_end, entries_of, filled, from_of, to_of, frame_of};
 ghost use Rattle.link.specs.Stored.{Ends};
 
 use octets::copy_in;
@@ -24,12 +24,49 @@ fn byte(s: &[u8], a: usize) -> usize
     usize::from(s.get(a).copied().unwrap_or(0))
 }
 
-// Where the first entry of a run ends.
-pub fn first_end(run: &[u8]) -> usize
+// Where the first entry of a run ends, if the run goes that far.
+fn entry_end(run: &[u8]) -> usize
+    ensures { result ≡ entry_end run.now }
+{
+    PACKET + (256 * byte(run, 0) + byte(run, 1))
+}
+
+// Where it ends in the run.
+fn first_end(run: &[u8]) -> usize
     ensures { Ends run.now result }
 {
-    let end = PACKET + (256 * byte(run, 0) + byte(run, 1));
-    end.min(run.len())
+    entry_end(run).min(run.len())
+}
+
+// What is left of a run: its entries, each in turn.
+#[derive(Clone, Copy)]
+pub struct Entries<'a>(pub &'a [u8]);
+
+impl<'a> Iterator for Entries<'a> {
+    ghost use Rattle.std.specs.Iterator.{YieldsFirstRef, item_count};
+
+    type Item = &'a [u8];
+
+    ghost next_gives = { YieldsFirstRef (λ s. entries_of s.0.now) };
+
+    ghost remaining = { item_count (λ s. entries_of s.0.now) };
+
+    #[tactic(auto, using(crate::proofs::Runs::steps))]
+    fn next(&mut self) -> Option<&'a [u8]> {
+        if self.0.is_empty() {
+            return None;
+        }
+        let (entry, behind) = self.0.split_at(first_end(self.0));
+        self.0 = behind;
+        Some(entry)
+    }
+}
+
+// Whether an entry has all its bytes: the last of a run may be cut off.
+pub fn is_whole(e: &[u8]) -> bool
+    ensures { result ≡ eqb (length e.now) (entry_end e.now) }
+{
+    e.len() == entry_end(e)
 }
 
 // At most n bytes from a on.

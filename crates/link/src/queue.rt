@@ -7,7 +7,7 @@ ghost use Rattle.link.specs.Entries.{entries_of};
 ghost use Rattle.link.specs.Link.{copies, next_letter, through};
 ghost use Rattle.link.specs.Stored.{stored_entry, stored, Waits};
 
-use crate::entry;
+use crate::entry::Entries;
 use octets::{copy_in, read, write};
 
 // Where the queue ends, and the letters to come.
@@ -75,11 +75,8 @@ pub fn put_all<'a>(queue: &mut [u8], mark: Mark<'a>, run: &[u8]) -> Mark<'a>
         × (result.letters.now ≡ drop (length es) mark.entry.letters.now) }
 {
     let mut end = mark;
-    let mut rest = run;
-    while !rest.is_empty() {
-        let (first, behind) = rest.split_at(entry::first_end(rest));
-        end = put_out(queue, end, first);
-        rest = behind;
+    for entry in Entries(run) {
+        end = put_out(queue, end, entry);
     }
     end
 }

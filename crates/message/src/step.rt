@@ -26,7 +26,8 @@ const CHUNK_REPLY: usize = MessageChunk::PIECE;
 
 pub const DONE_REPLY: usize = MessageDone::SIZE;
 
-// What an accepted packet is answered with: how many bytes of its frame the reply keeps (0: no reply), the wake mark.
+// What an accepted packet is answered with: how many bytes of its frame the reply keeps, the wake
+// mark. No reply keeps 0, as `reply_bytes` says, and the mark is the answer's number.
 #[derive(Clone, Copy)]
 pub struct Effect {
     pub keeps: usize,
@@ -66,7 +67,7 @@ pub struct Route {
     pub to: [u8; 16],
 }
 
-// The packet's step: its number, and both stores.
+// The packet's step: its refusal, or both stores after it.
 pub fn step(
     kind: Kind,
     recv: &mut [u8],
@@ -111,7 +112,8 @@ pub fn step(
     }
 }
 
-// The reply, from the packet's to-address to its from-address; answers how long the run is.
+// The reply, from the packet's to-address to its from-address; answers how long the run is. Both are as they were lent:
+// a `Route` has copies.
 pub fn reply(keeps: usize, frame: &[u8], from: &[u8; 16], to: &[u8; 16], run: &mut [u8]) -> usize
     requires { ((k : Kind) × (keeps ≡ reply_bytes k))
         × (keeps ≤ length frame.now)

@@ -1,98 +1,75 @@
--- The walk along the pieces of a record, as its loop takes it: of those that were passed, the line has the first eight that want sending.
--- Assumes nothing.
-use Prim.Native.Nat.{ℕ, suc, ◌+◌, ◌-◌, ◌≤◌, ◌<◌}
+-- The walk along the pieces of a record: what the line becomes of those that are left. Assumes nothing.
+use Prim.Native.Nat.{ℕ}
 use native.Mathlib.Omega.{arith}
 use mathlib.Core.Path.{◌≡◌, refl, sym, ap, ◌∙◌}
+use mathlib.Core.Bool.{false, cond}
 use mathlib.Core.List.{List, [], ◌∷◌, ◌++◌, append-nil, append_assoc}
-use lib.ListN.{length, get_or, replicate}
-use Rattle.machine.specs.Limits.{most_cells}
-use Rattle.machine.specs.Codes.{role_send}
+use lib.ListN.{length, drop, replicate, length-append, length-take, length-drop}
+use Rattle.std.specs.Prelude.{Option, Some, None, take}
+use Rattle.std.specs.List.{insert}
+use Rattle.std.proofs.lemmas.Option.{cond_some, none-some}
+use Rattle.octets.specs.BoolsLaws.{cases}
 use Rattle.machine.specs.Values.{Cell}
-use Rattle.machine.specs.Layout.{count_at, first_cell_at, cell_off, cell_of, cell_place, read_cell}
+use Rattle.machine.specs.Layout.{cell_of}
 use Rattle.machine.specs.Choice.{only, by_stamp, waiting, most_sent}
-use Rattle.records.specs.HeldAt.{row_in, rec_in}
-use Rattle.pieces.specs.InPlace.{CellIn}
-use Rattle.pieces.specs.ReadLaws.{cell_in, cells_from, cells-end, cells_out, cells-more}
-use Rattle.pieces.specs.OfHeldLaws.{cells-here, first-inside}
-use Rattle.outbox.specs.Leaves.{Here}
-use Rattle.outbox.specs.Line.{rank, never, ranked, turn, put_in, ranks_of, places_of}
-use Rattle.outbox.specs.LineLaws.{eight-long, ranks-more, places-more}
+use Rattle.machine_steps.proofs.Waiting.{wants}
+use Rattle.soundness.specs.declared.pieces.Piece.{Piece}
+use Rattle.soundness.specs.Places.{piece_of}
+use Rattle.outbox.specs.declared.choice.Turn.{Turn}
+use Rattle.outbox.specs.Line.{rank, ranked, turn, put_in, turn_of, line_of}
+use Rattle.outbox.specs.LineLaws.{line-more, line-same}
 
--- the steps of a walk: one more than there are cells
-abbrev steps : ℕ
-steps = suc most_cells
+-- the line with those of the pieces that want sending
+unfoldable pub lined : ℕ → List (Option Turn) → List Cell → List (Option Turn)
+lined clock line [] = line
+lined clock line (c ∷ l) = lined clock (cond (wants clock c) (put_in (turn_of c) line) line) l
 
--- after n steps the walk is at `place`
-pub record Choosing (b : List ℕ) (link clock : ℕ) (ranks places : List ℕ) (place n : ℕ) : Type 0 where
-  pub here : Here b link
-  pub typed : clock ≤ never
-  pub turns : n ≤ steps
-  pub leads : place ≤ get_or b count_at 0
-  pub seen : List Cell
-  pub parts : (rec_in b link).cells ≡ seen ++ cells_from b (steps - n) place
-  pub ranked : ranks ≡ ranks_of (waiting clock seen)
-  pub placed : places ≡ places_of (waiting clock seen)
+pub lined_none : (clock : ℕ) (line : List (Option Turn)) → lined clock line [] ≡ line
+unfolding lined
+lined_none clock line = refl
 
-pub choosing-start : {b : List ℕ} {link clock place : ℕ} → Here b link → clock ≤ never → place ≡ get_or (row_in b link) first_cell_at 0
-    → Choosing b link clock (replicate most_sent never) (replicate most_sent 0) place 0
+module _ (clock : ℕ) (line : List (Option Turn)) (p : Piece) (l : List Cell) where
+  abbrev c : Cell
+  c = piece_of p
+
+  pub lined_in : (r : ℕ) → ranked clock c ≡ Some r → lined clock line (c ∷ l) ≡ lined clock (put_in (record { rank = r; place = p.place }) line) l
+  unfolding lined cell_of
+  lined_in r e =
+      let q = cond_some (wants clock c) (rank c) r e in
+      rw q.0 (ap (λ (n : ℕ). lined clock (put_in (record { rank = n; place = p.place }) line) l) q.1)
+
+  pub lined_past : ranked clock c ≡ None → lined clock line (c ∷ l) ≡ lined clock line l
+  unfolding lined
+  lined_past e =
+      let out : wants clock c ≡ false =
+      cases (wants clock c) (λ q. let w : ◌≡◌ {A = Option ℕ} (Some (rank c)) None = rw q at e in absurd (none-some (rank c) (sym w))) (λ q. q) in
+      rw out refl
+
+-- all of them, behind those that were seen
+lined-seen : (clock : ℕ) (seen l : List Cell) → lined clock (line_of (waiting clock seen)) l ≡ line_of (waiting clock (seen ++ l))
+unfolding lined
+lined-seen clock seen [] = ap (λ (m : List Cell). line_of (waiting clock m)) (sym (append-nil seen))
+lined-seen clock seen (c ∷ l) =
+    let more = lined-seen clock (seen ++ (c ∷ [])) l ∙ ap (λ (m : List Cell). line_of (waiting clock m)) (append_assoc seen (c ∷ []) l) in
+    cases (wants clock c)
+    (λ e. rw e (ap (λ (m : List (Option Turn)). lined clock m l) (line-more clock seen c e) ∙ more))
+    (λ e. rw e (ap (λ (m : List (Option Turn)). lined clock m l) (line-same clock seen c e) ∙ more))
+
+pub lined_all : (clock : ℕ) (l : List Cell) → lined clock (replicate most_sent None) l ≡ line_of (waiting clock l)
 unfolding only by_stamp
-choosing-start {b} {link} h t e = record {
-  here = h;
-  typed = t;
-  turns = omega arith;
-  leads = first-inside role_send b h.bytes link h.held e;
-  seen = [];
-  parts = sym (cells-here b link e);
-  ranked = refl;
-  placed = refl;
-}
+lined_all clock l = lined-seen clock [] l
 
-module _ {b : List ℕ} {link clock : ℕ} {ranks places : List ℕ} {place n : ℕ} (g : Choosing b link clock ranks places place n) where
-  pub ranks-long : length ranks ≡ most_sent
-  ranks-long = ap length g.ranked ∙ eight-long rank never (waiting clock g.seen)
+-- a line stays as long as it is
+pub put_long : (t : Turn) (line : List (Option Turn)) → length line ≡ most_sent → length (put_in t line) ≡ most_sent
+put_long t line long =
+    let at : ℕ = turn t.rank line in
+    omega (
+      arith,
+      length-take most_sent (insert line at (Some t)),
+      length-append (take at line) (Some t ∷ drop at line),
+      length-take at line,
+      length-drop at line,
+      long,
+    )
 
-  pub places-long : length places ≡ most_sent
-  places-long = ap length g.placed ∙ eight-long cell_place 0 (waiting clock g.seen)
-
-  -- ---- no piece is left
-
-  abbrev Chosen : Type 0
-  Chosen = places ≡ places_of (waiting clock (rec_in b link).cells)
-
-  all_seen : cells_from b (steps - n) place ≡ [] → Chosen
-  all_seen e =
-      let all : (rec_in b link).cells ≡ g.seen = g.parts ∙ ap (λ (l : List Cell). g.seen ++ l) e ∙ append-nil g.seen in
-      g.placed ∙ ap (λ (l : List Cell). places_of (waiting clock l)) (sym all)
-
-  pub choosing-end : place ≡ 0 → Chosen
-  choosing-end z = all_seen (cells-end b (steps - n) place z)
-
-  pub choosing-out : steps ≤ n → Chosen
-  choosing-out z = all_seen (cells_out b (steps - n) place (omega arith))
-
-  -- ---- one more piece
-
-  module _ (some : place ≡ 0 → ⊥) where
-    pub choosing-cell : CellIn b place
-    choosing-cell = cell_in b g.here.links place (omega (arith, some)) g.leads
-
-    pub choosing-more : {r at next : ℕ} {ranks' places' : List ℕ} → n < steps → r ≡ ranked clock (read_cell b place) → at ≡ turn r ranks
-        → ranks' ≡ put_in at r ranks → places' ≡ put_in at place places → next ≡ get_or b (cell_off place) 0
-        → Choosing b link clock ranks' places' next (n + 1)
-    unfolding cell_of
-    choosing-more {next = next} h er ea eranks eplaces en =
-        let c = read_cell b place in
-        let seen : List Cell = g.seen ++ (c ∷ []) in
-        let m : steps - n - 1 ≡ steps - (n + 1) = omega arith in
-        let left : cells_from b (steps - n) place ≡ c ∷ cells_from b (steps - (n + 1)) next =
-        cells-more b (steps - n) place (omega arith) (omega (arith, some)) ∙ (λ i. c ∷ cells_from b (m i) (sym en i)) in
-        record {
-          here = g.here;
-          typed = g.typed;
-          turns = omega arith;
-          leads = omega (arith, en, g.here.links.cells place (omega (arith, some)) g.leads);
-          seen = seen;
-          parts = g.parts ∙ ap (λ (l : List Cell). g.seen ++ l) left ∙ sym (append_assoc g.seen (c ∷ []) (cells_from b (steps - (n + 1)) next));
-          ranked = eranks ∙ rw (ea, er, g.ranked) (ranks-more clock g.typed g.seen c);
-          placed = eplaces ∙ rw (ea, er, g.ranked, g.placed) (places-more clock g.typed g.seen c);
-        }
+pub ruleset choosing = (lined_none, lined_in, lined_past, lined_all, put_long)

@@ -31,7 +31,7 @@ counted-all (c ∷ l) h =
     rw (eq-eqb piece_acked c.state (sym (eqb-true c.state piece_acked s.0))) (omega (arith, counted-all l s.1))
 
 -- every piece is acknowledged where as many are as there are pieces
-pub acked-is : (l : List Cell) → eqb (acked l) (length l) ≡ all_acked l
-acked-is l =
+pub acked_is : (l : List Cell) → eqb (acked l) (length l) ≡ all_acked l
+acked_is l =
     iff (eqb (acked l) (length l)) (all_acked l)
     (λ e. all-counted l (eqb-true (acked l) (length l) e)) (λ e. eq-eqb (acked l) (length l) (counted-all l e))

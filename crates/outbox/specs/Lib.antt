@@ -3,7 +3,8 @@ pub mod LineLaws
 pub mod Sending
 pub mod Leaves
 pub mod HereLaws
-pub mod EntriesLaws
+pub mod Left
+pub mod Kinds
 pub mod RoomLaws
 pub mod PartlyLaws
 pub mod AckedLaws

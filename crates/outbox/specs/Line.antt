@@ -1,36 +1,35 @@
--- The line that the code keeps of the pieces that a wake sends: a rank for each piece, and eight places in the order of sending.
-use Rattle.std.specs.Prelude.{ℕ, suc, cond, List, [], ◌∷◌, ◌++◌, map, take, drop, replicate, ltb}
+-- The line that the code keeps of the pieces that a wake sends: eight places in the order of sending, with no piece behind the last one.
+use Rattle.std.specs.Prelude.{ℕ, suc, Bool, true, cond, List, ◌++◌, map, take, replicate, ltb, Option, Some, None}
+use Rattle.std.specs.List.{position_or_len, insert}
 use Rattle.machine.specs.Values.{Cell}
-use Rattle.machine.specs.Layout.{cell_place}
 use Rattle.machine.specs.Choice.{is_started, most_sent}
 use Rattle.machine_steps.proofs.Waiting.{wants}
+use Rattle.outbox.specs.declared.choice.Turn.{Turn}
 
 -- a lower rank goes first: Started ones, then by the oldest stamp
 abbrev pub rank : Cell → ℕ
 rank c = cond (is_started c) 0 (suc c.stamp)
 
--- the rank of what is not sent now, behind all others
-abbrev pub never : ℕ
-never = 18446744073709551615
+-- the rank of a piece that is sent now
+abbrev pub ranked : ℕ → Cell → Option ℕ
+ranked clock c = cond (wants clock c) (Some (rank c)) None
 
-abbrev pub ranked : ℕ → Cell → ℕ
-ranked clock c = cond (wants clock c) (rank c) never
+-- whether a piece of rank r goes before what stands in a place of the line
+abbrev pub goes_before : ℕ → Option Turn → Bool
+goes_before r None = true
+goes_before r (Some t) = ltb r t.rank
 
--- how many numbers of a line go before r: those before the first that is higher
-unfoldable pub turn : ℕ → List ℕ → ℕ
-turn r [] = 0
-turn r (x ∷ l) = cond (ltb r x) 0 (suc (turn r l))
+-- how many of a line go before a piece of rank r
+abbrev pub turn : ℕ → List (Option Turn) → ℕ
+turn r line = position_or_len (goes_before r) line
 
--- a number comes in at a place; of nine the last one goes
-abbrev pub put_in : ℕ → ℕ → List ℕ → List ℕ
-put_in at x l = take most_sent (take at l ++ (x ∷ drop at l))
+-- a piece comes in at its turn; of nine the last one goes
+abbrev pub put_in : Turn → List (Option Turn) → List (Option Turn)
+put_in t line = take most_sent (insert line (turn t.rank line) (Some t))
 
--- what f says of the first eight pieces, and z behind the last one
-abbrev pub eight_of : (Cell → ℕ) → ℕ → List Cell → List ℕ
-eight_of f z l = take most_sent (map f l ++ replicate most_sent z)
+-- the turn of a piece, and the line of the first eight pieces
+abbrev pub turn_of : Cell → Turn
+turn_of c = record { rank = rank c; place = c.place }
 
-abbrev pub ranks_of : List Cell → List ℕ
-ranks_of l = eight_of rank never l
-
-abbrev pub places_of : List Cell → List ℕ
-places_of l = eight_of cell_place 0 l
+abbrev pub line_of : List Cell → List (Option Turn)
+line_of l = take most_sent (map (λ c. Some (turn_of c)) l ++ replicate most_sent None)

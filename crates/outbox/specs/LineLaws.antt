@@ -1,80 +1,80 @@
 -- Laws of the line: a piece that comes to the pieces passed so far takes its place among those that want sending. Assumes nothing.
-use Rattle.std.specs.Prelude.{ℕ, zero, suc, ◌+◌, ◌≤◌, ◌<◌, min, ◌≡◌, refl, Bool, true, false, cond, List, [], ◌∷◌, ◌++◌, map, length, take, drop, replicate, eqb, leb, ltb}
+use Rattle.std.specs.Prelude.{ℕ, zero, suc, ◌+◌, ◌≤◌, ◌<◌, min, ◌≡◌, refl, Bool, true, false, cond, List, [], ◌∷◌, ◌++◌, map, length, take, replicate, eqb, leb, ltb}
+use Rattle.std.specs.Prelude.{Option, Some, None}
+use Rattle.std.specs.List.{insert}
 use Rattle.std.proofs.Math.Nat.{min-zero, suc-min-suc}
-use Rattle.std.proofs.Common.{arith, sym, ap, ◌∙◌, subst, append-nil, append_assoc, length-append, length-take, take-append-drop, take-take, take_all, take_at, eqb-true, ne_eqb, leb-true, leb-false}
+use Rattle.std.proofs.Common.{arith, sym, ap, ◌∙◌, append-nil, append_assoc, length-append, length-take, take-take, eqb-true, ne_eqb, leb-true, leb-false}
 use Rattle.std.proofs.Common.{ltb-true, ltb-false, lt-ltb, le-ltb}
-use Rattle.std.proofs.lemmas.List.{length-replicate}
 use Rattle.std.proofs.lemmas.Bool.{lt-leb}
+use Rattle.std.proofs.lemmas.List.{length-replicate}
 use Rattle.octets.specs.BoolsLaws.{cases, clash, split}
 use Rattle.octets.specs.Lists.{All}
-use Rattle.octets.specs.ListsLaws.{all_of, all_left, all_join, all_map}
+use Rattle.octets.specs.ListsLaws.{all_of}
 use Rattle.machine.specs.Limits.{resend_after}
 use Rattle.machine.specs.Codes.{piece_started, piece_sent}
 use Rattle.machine.specs.Values.{Cell}
-use Rattle.machine.specs.Layout.{cell_place}
-use Rattle.machine.specs.Choice.{is_started, is_due, only, insert, by_stamp, waiting, most_sent}
-use Rattle.machine_steps.proofs.Waiting.{wants, only-all, sorted_all, waiting-all}
-use Rattle.outbox.specs.Line.{rank, never, ranked, turn, put_in, eight_of, ranks_of}
+use Rattle.machine.specs.Choice.{is_started, is_due, only, insert as insert_piece, by_stamp, waiting, most_sent}
+use Rattle.machine_steps.proofs.Waiting.{wants, only-all, sorted_all}
+use Rattle.outbox.specs.declared.choice.Turn.{Turn}
+use Rattle.outbox.specs.Line.{rank, turn, put_in, turn_of, line_of}
 
--- ---- a number comes in
+-- ---- a turn comes in
 
--- r has its place before the numbers that are higher
-turn-append : (r z n : ℕ) (l : List ℕ) → r < z → turn r (l ++ replicate (suc n) z) ≡ turn r l
-unfolding turn
-turn-append r z n [] h = rw (lt-ltb r z h)
-turn-append r z n (x ∷ l) h = rw (turn-append r z n l h)
+-- the places behind the last piece are behind its turn too
+turn-append : (r n : ℕ) (l : List (Option Turn)) → turn r (l ++ replicate (suc n) None) ≡ turn r l
+turn-append r n [] = refl
+turn-append r n (None ∷ l) = refl
+turn-append r n (Some t ∷ l) = rw (turn-append r n l)
 
-turn-take : (r n : ℕ) (l : List ℕ) → turn r (take n l) ≡ min n (turn r l)
-unfolding turn
+turn-take : (r n : ℕ) (l : List (Option Turn)) → turn r (take n l) ≡ min n (turn r l)
 turn-take r zero l = omega arith
 turn-take r (suc n) [] = omega arith
-turn-take r (suc n) (x ∷ l) = cases (ltb r x) (λ e. rw e (omega arith)) (λ e. rw e (omega (arith, turn-take r n l)))
+turn-take r (suc n) (None ∷ l) = omega arith
+turn-take r (suc n) (Some t ∷ l) = cases (ltb r t.rank) (λ e. rw e (omega arith)) (λ e. rw e (omega (arith, turn-take r n l)))
 
--- the first n of a line into which x came: what stands behind them does not matter
-in-first : (n i x : ℕ) (l : List ℕ) → take n (take (min n i) (take n l) ++ (x ∷ drop (min n i) (take n l))) ≡ take n (take i l ++ (x ∷ drop i l))
+-- the first n of a list into which x came: what stands behind them does not matter
+in-first : {A : Type 0} (n i : ℕ) (x : A) (l : List A) → take n (insert (take n l) (min n i) x) ≡ take n (insert l i x)
 in-first zero i x l = refl
-in-first (suc n) zero x l = rw (min-zero (suc n)) (ap (λ (m : List ℕ). x ∷ m) (take-take n (suc n) l (omega arith)))
+in-first (suc n) zero x l = rw (min-zero (suc n)) (ap (λ m. x ∷ m) (take-take n (suc n) l (omega arith)))
 in-first (suc n) (suc i) x [] = rw (suc-min-suc n i) refl
-in-first (suc n) (suc i) x (y ∷ l) = rw (suc-min-suc n i) (ap (λ (m : List ℕ). y ∷ m) (in-first n i x l))
+in-first (suc n) (suc i) x (y ∷ l) = rw (suc-min-suc n i) (ap (λ m. y ∷ m) (in-first n i x l))
 
 -- ---- a piece comes in
 
--- at a place of a list
-abbrev pub insert_at : ℕ → Cell → List Cell → List Cell
-insert_at i c l = take i l ++ (c ∷ drop i l)
+abbrev waits : Cell → Option Turn
+waits c = Some (turn_of c)
 
-map-insert : (f : Cell → ℕ) (i : ℕ) (c : Cell) (l : List Cell) (m : List ℕ) → i ≤ length l
-    → take i (map f l ++ m) ++ (f c ∷ drop i (map f l ++ m)) ≡ map f (insert_at i c l) ++ m
-map-insert f zero c l m h = refl
-map-insert f (suc i) c [] m h = absurd (omega arith)
-map-insert f (suc i) c (d ∷ l) m h = ap (λ (x : List ℕ). f d ∷ x) (map-insert f i c l m (omega arith))
+map-insert : (i : ℕ) (c : Cell) (l : List Cell) (m : List (Option Turn)) → i ≤ length l
+    → insert (map waits l ++ m) i (waits c) ≡ map waits (insert l i c) ++ m
+map-insert zero c l m h = refl
+map-insert (suc i) c [] m h = absurd (omega arith)
+map-insert (suc i) c (d ∷ l) m h = ap (λ (x : List (Option Turn)). waits d ∷ x) (map-insert i c l m (omega arith))
 
 -- the line goes by pieces
-put-line : (f : Cell → ℕ) (z i : ℕ) (c : Cell) (l : List Cell) → i ≤ length l → put_in (min most_sent i) (f c) (eight_of f z l) ≡ eight_of f z (insert_at i c l)
-put-line f z i c l h =
-    in-first most_sent i (f c) (map f l ++ replicate most_sent z) ∙ ap (take most_sent) (map-insert f i c l (replicate most_sent z) h)
+put-line : (i : ℕ) (c : Cell) (l : List Cell) → i ≤ length l → take most_sent (insert (line_of l) (min most_sent i) (waits c)) ≡ line_of (insert l i c)
+put-line i c l h =
+    in-first most_sent i (waits c) (map waits l ++ replicate most_sent None) ∙ ap (take most_sent) (map-insert i c l (replicate most_sent None) h)
 
 -- behind those of its rank or a lower one
 abbrev pub behind : Cell → List Cell → List Cell
-behind c l = insert_at (turn (rank c) (map rank l)) c l
+behind c l = insert l (turn (rank c) (map waits l)) c
 
-turn-few : (r : ℕ) (l : List Cell) → turn r (map rank l) ≤ length l
-unfolding turn
+turn-few : (r : ℕ) (l : List Cell) → turn r (map waits l) ≤ length l
 turn-few r [] = omega arith
 turn-few r (c ∷ l) = cases (ltb r (rank c)) (λ e. rw e (omega arith)) (λ e. rw e (omega (arith, turn-few r l)))
 
 behind-none : (c : Cell) → behind c [] ≡ c ∷ []
-unfolding turn
 behind-none c = refl
 
 -- before the first of a higher rank
 behind-first : (c d : Cell) (l : List Cell) → rank c < rank d → behind c (d ∷ l) ≡ c ∷ d ∷ l
-unfolding turn
 behind-first c d l h = rw (lt-ltb (rank c) (rank d) h)
 
 behind-past : (c d : Cell) (l : List Cell) → rank d ≤ rank c → behind c (d ∷ l) ≡ d ∷ behind c l
-unfolding turn
-behind-past c d l h = rw (le-ltb (rank c) (rank d) h)
+behind-past c d l h =
+    let before : ℕ = turn (rank c) (map waits l) in
+    let e : 1 + before ≡ suc before = omega arith in
+    rw (le-ltb (rank c) (rank d) h, e)
 
 -- ---- where it comes in
 
@@ -119,8 +119,8 @@ behind-later c (d ∷ l) e h =
     (λ q. behind-past c d l (omega (arith, ltb-false c.stamp d.stamp q)) ∙ ap (λ (x : List Cell). d ∷ x) (behind-later c l e h.1) ∙ rw q)
 
 -- a goes before equal stamps and c behind them, so it is all one which comes in first
-insert-later : (a c : Cell) (l : List Cell) → insert a (later c l) ≡ later c (insert a l)
-unfolding insert later
+insert-later : (a c : Cell) (l : List Cell) → insert_piece a (later c l) ≡ later c (insert_piece a l)
+unfolding insert_piece later
 insert-later a c [] =
     cases (leb a.stamp c.stamp)
     (λ p. rw (p, le-ltb c.stamp a.stamp (leb-true a.stamp c.stamp p)))
@@ -139,9 +139,9 @@ insert-later a c (d ∷ l) =
     (λ q. rw (q, p, q) (ap (λ (x : List Cell). d ∷ x) (insert-later a c l))))
 
 sorted_more : (l : List Cell) (c : Cell) → by_stamp (l ++ (c ∷ [])) ≡ later c (by_stamp l)
-unfolding by_stamp insert later
+unfolding by_stamp insert_piece later
 sorted_more [] c = refl
-sorted_more (a ∷ l) c = ap (insert a) (sorted_more l c) ∙ insert-later a c (by_stamp l)
+sorted_more (a ∷ l) c = ap (insert_piece a) (sorted_more l c) ∙ insert-later a c (by_stamp l)
 
 -- ---- one more piece
 
@@ -195,73 +195,28 @@ module _ (clock : ℕ) (l : List Cell) (c : Cell) where
 
 -- ---- the line of one more piece
 
--- what waits has a rank below the highest number
-rank-small : (clock : ℕ) (c : Cell) → clock ≤ never → wants clock c ≡ true → rank c < never
-rank-small clock c t e =
-    cases (is_started c)
-    (λ s. rw s (omega arith))
-    (λ s. let d : is_due clock c ≡ true = cases (is_due clock c) (λ q. q) (λ q. clash e (rw (s, q))) in
-    let g = leb-true (c.stamp + resend_after) clock (split (eqb c.state piece_sent) (leb (c.stamp + resend_after) clock) d).1 in
-    rw s (omega arith))
+module _ (clock : ℕ) (l : List Cell) (c : Cell) where
+  -- one that wants sending comes in at its turn
+  pub line-more : wants clock c ≡ true → put_in (turn_of c) (line_of (waiting clock l)) ≡ line_of (waiting clock (l ++ (c ∷ [])))
+  line-more e =
+      let now : List Cell = waiting clock l in
+      let at : turn (rank c) (line_of now) ≡ min most_sent (turn (rank c) (map waits now)) =
+      turn-take (rank c) most_sent (map waits now ++ replicate most_sent None) ∙ ap (min most_sent) (turn-append (rank c) 7 (map waits now)) in
+      ap (λ (n : ℕ). take most_sent (insert (line_of now) n (waits c))) at
+      ∙ put-line (turn (rank c) (map waits now)) c now (turn-few (rank c) now) ∙ ap line_of (sym (waiting-more clock l c e))
 
--- no number of a line is higher: then all go before it
-turn-all : (l : List ℕ) → All (λ (x : ℕ). x ≤ never) l → turn never l ≡ length l
-unfolding turn
-turn-all [] h = refl
-turn-all (x ∷ l) h = rw (le-ltb never x h.0) (ap suc (turn-all l h.1))
+  -- another one does not
+  pub line-same : wants clock c ≡ false → line_of (waiting clock l) ≡ line_of (waiting clock (l ++ (c ∷ [])))
+  line-same e = ap line_of (sym (waiting-same clock l c e))
 
-ranks-most : (clock : ℕ) (l : List Cell) → clock ≤ never → All (λ (x : ℕ). x ≤ never) (ranks_of (waiting clock l))
-ranks-most clock l t =
-    let w : List Cell = waiting clock l in
-    let Most : ℕ → Type 0 = λ x. x ≤ never in
-    let line : List ℕ = map rank w ++ replicate most_sent never in
-    let small = waiting-all (λ (c : Cell). rank c ≤ never) clock l
-    (all_of (λ (c : Cell). wants clock c ≡ true → rank c ≤ never) l (λ c e. omega (arith, rank-small clock c t e))) in
-    let all : All Most line = all_join Most (map rank w) (replicate most_sent never) (all_map rank Most w small) (same most_sent) in
-    all_left Most (take most_sent line) (drop most_sent line) (subst (All Most) (sym (take-append-drop most_sent line)) all)
-  where
-    same : (n : ℕ) → All (λ (x : ℕ). x ≤ never) (replicate n never)
-    same zero = tt
-    same (suc n) = (omega arith, same n)
-
-pub eight-long : (f : Cell → ℕ) (z : ℕ) (l : List Cell) → length (eight_of f z l) ≡ most_sent
-eight-long f z l =
-    omega (arith, length-take most_sent (map f l ++ replicate most_sent z), length-append (map f l) (replicate most_sent z), length-replicate most_sent z)
-
--- behind eight nothing comes in
-put-out : (x : ℕ) (l : List ℕ) → length l ≡ most_sent → put_in most_sent x l ≡ l
-put-out x l n =
-    ap (λ (m : List ℕ). take most_sent (m ++ (x ∷ drop most_sent l))) (take_all most_sent l (omega (arith, n)))
-    ∙ take_at l (x ∷ drop most_sent l) most_sent n
-
-module _ (clock : ℕ) (t : clock ≤ never) (l : List Cell) (c : Cell) where
-  abbrev now : List Cell
-  now = waiting clock l
-
-  abbrev place : ℕ
-  place = turn (ranked clock c) (ranks_of now)
-
-  abbrev Comes : (Cell → ℕ) → ℕ → ℕ → Type 0
-  Comes f z x = put_in place x (eight_of f z now) ≡ eight_of f z (waiting clock (l ++ (c ∷ [])))
-
-  comes : (f : Cell → ℕ) (z x : ℕ) → (wants clock c ≡ true → x ≡ f c) → Comes f z x
-  comes f z x own =
-      cases (wants clock c)
-      (λ e. let r : ranked clock c ≡ rank c = rw e in
-      let at : place ≡ min most_sent (turn (rank c) (map rank now)) =
-      ap (λ (n : ℕ). turn n (ranks_of now)) r ∙ turn-take (rank c) most_sent (map rank now ++ replicate most_sent never)
-      ∙ ap (min most_sent) (turn-append (rank c) never 7 (map rank now) (rank-small clock c t e)) in
-      (λ i. put_in (at i) (own e i) (eight_of f z now))
-      ∙ put-line f z (turn (rank c) (map rank now)) c now (turn-few (rank c) now) ∙ ap (eight_of f z) (sym (waiting-more clock l c e)))
-      (λ e. let r : ranked clock c ≡ never = rw e in
-      let at : place ≡ most_sent =
-      ap (λ (n : ℕ). turn n (ranks_of now)) r ∙ turn-all (ranks_of now) (ranks-most clock l t) ∙ eight-long rank never now in
-      ap (λ (n : ℕ). put_in n x (eight_of f z now)) at ∙ put-out x (eight_of f z now) (eight-long f z now)
-      ∙ ap (eight_of f z) (sym (waiting-same clock l c e)))
-
-  -- ranks and places
-  pub ranks-more : Comes rank never (ranked clock c)
-  ranks-more = comes rank never (ranked clock c) (λ e. rw e)
-
-  pub places-more : Comes cell_place 0 c.place
-  places-more = comes cell_place 0 c.place (λ e. refl)
+-- a line has eight places
+pub line-long : (l : List Cell) → length (line_of l) ≡ most_sent
+line-long l =
+    let none : Option Turn = None in
+    let some : List (Option Turn) = map (λ c. Some (turn_of c)) l in
+    omega (
+      arith,
+      length-take most_sent (some ++ replicate most_sent none),
+      length-append some (replicate most_sent none),
+      length-replicate most_sent none,
+    )

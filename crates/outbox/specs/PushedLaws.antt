@@ -1,7 +1,7 @@
 -- A push that is not refused, from bytes to stores: the pieces are cut into the free cells, then the record is opened. Assumes nothing.
-use Prim.Native.Nat.{ℕ, zero, suc, ◌+◌, ◌<◌}
-use Rattle.std.proofs.Common.{arith, zero-add, sym, ◌∙◌, subst, take-append-drop, eq-eqb, ne_eqb, lt-ltb, ltb-true}
-use Rattle.std.specs.Prelude.{◌≡◌, length, get_or, drop}
+use Prim.Native.Nat.{ℕ, zero, suc, ◌<◌}
+use Rattle.std.proofs.Common.{arith, zero-add, sym, ◌∙◌, subst, take-append-drop, le-ltb, lt-ltb, ltb-true}
+use Rattle.std.specs.Prelude.{unwrap_or, ◌≡◌, length, get_or, drop}
 use Rattle.std.proofs.Math.Path.{refl, ap}
 use mathlib.Core.List.{List, [], ◌∷◌, ◌++◌, map}
 use Rattle.octets.specs.Octets.{put, Bytes}
@@ -28,7 +28,7 @@ use Rattle.machine_writes.specs.Open.{Ready, with_free_cells}
 use Rattle.machine_writes.specs.Encodes
 use Rattle.records.specs.MetLaws.{valid, rep}
 use Rattle.records.specs.EstablishedLaws.{free-is}
-use Rattle.records.specs.Opening.{Openable, new_rec, opened_row, opened_with}
+use Rattle.records.specs.Opening.{Openable, FieldsFit, new_rec, opened_row, opened_with}
 use Rattle.records.specs.OpenedLaws.{fine-fields, open-chain}
 use Rattle.outbox.specs.Pushing.{Pushable, first_place}
 
@@ -53,13 +53,13 @@ module _ (b : List ℕ) (y : Bytes b) (h : Label) (bytes : List ℕ) (g : Pushab
   holds = rep role_send b y g.sound
 
   -- the first piece's place
-  pub first-place : first_place b (length bytes) ≡ first (map cell_place (pieces_of b bytes))
+  pub first-place : unwrap_or (first_place b (length bytes)) 0 ≡ first (map cell_place (pieces_of b bytes))
   unfolding cut_pieces
   first-place = go (length bytes) (slots_of (length bytes)) refl
     where
-      go : (n k : ℕ) → k ≡ slots_of n → first_place b n ≡ first (map cell_place (cut_pieces k 0 s.free_cells bytes))
-      go n zero e = rw (eq-eqb n 0 (omega arith))
-      go n (suc k) e = rw (ne_eqb n 0 (λ z. omega arith)) (head_byte role_send s v b holds free_cells_at (omega arith))
+      go : (n k : ℕ) → k ≡ slots_of n → unwrap_or (first_place b n) 0 ≡ first (map cell_place (cut_pieces k 0 s.free_cells bytes))
+      go n zero e = rw (le-ltb 0 n (omega arith))
+      go n (suc k) e = rw (lt-ltb 0 n (omega arith)) (head_byte role_send s v b holds free_cells_at (omega arith))
 
   -- data of bytes, and times that fit
   module _ (z : Bytes bytes) (created end : ℕ) (c : created < number_limit) (e : end < number_limit) where
@@ -83,14 +83,17 @@ module _ (b : List ℕ) (y : Bytes b) (h : Label) (bytes : List ℕ) (g : Pushab
         ap (λ (x : ℕ). get_or (cut_of b bytes) x 0) (sym (zero-add j)) ∙ sym (get_or-part (cut_of b bytes) 0 head_bytes j w)
         ∙ ap (λ (l : List ℕ). get_or l j 0) ready.head
 
-    pub cut-openable : Openable (cut_of b bytes)
-    cut-openable =
+    pub cut_openable : Openable (cut_of b bytes)
+    cut_openable =
         let same : get_or (cut_of b bytes) free_at 0 ≡ get_or b free_at 0 = cut-byte free_at (omega arith) ∙ sym (head_byte role_send s v b holds free_at (omega arith)) in
         record {
           some = omega (arith, same, ltb-true 0 (get_or b free_at 0) (free-is role_send b y g.sound ∙ lt-ltb 0 (length s.free) g.free));
           small = omega (arith, same, (links role_send b y g.sound).free.small);
           long = omega (arith, ready.size);
         }
+
+    pub open_ready : (m : List ℕ) → m ≡ cut_of b bytes → Openable m × FieldsFit h
+    open_ready m w = (rw w cut_openable, fine-fields g.fine)
 
     -- the free record at q, and those behind it
     module _ (q : ℕ) (qs : List ℕ) (is : s.free ≡ q ∷ qs) where
@@ -124,11 +127,11 @@ module _ (b : List ℕ) (y : Bytes b) (h : Label) (bytes : List ℕ) (g : Pushab
           (subst (Valid role_send) with-new (pushed-valid h created end bytes s g.held g.free g.cells g.fine g.total z c e v))
           ∙ ap encode (sym with-new)
 
-    pub push-opened : (m l : List ℕ) (cell : ℕ) → m ≡ cut_of b bytes → cell ≡ first_place b (length bytes)
+    pub push_opened : (m l : List ℕ) (cell : ℕ) → m ≡ cut_of b bytes → cell ≡ unwrap_or (first_place b (length bytes)) 0
         → l ≡ opened_row kind_leaving cell h created end m → l ≡ encode (push_step h created end bytes s)
-    push-opened m l cell w f o =
+    push_opened m l cell w f o =
         o ∙ ap (opened_row kind_leaving cell h created end) w
-        ∙ open-chain kind_leaving cell h (fine-fields g.fine) created end (cut_of b bytes) cut-openable (pieces_of b bytes) (sym (f ∙ first-place))
+        ∙ open-chain kind_leaving cell h (fine-fields g.fine) created end (cut_of b bytes) cut_openable (pieces_of b bytes) (sym (f ∙ first-place))
         ∙ go s.free refl
       where
         go : (l : List ℕ) → s.free ≡ l

@@ -1,35 +1,23 @@
 -- What is sent of a record and of its pieces, on bytes.
 use Rattle.std.specs.Prelude.{ℕ, ◌+◌, ◌*◌, ◌≤◌, ◌≡◌, cond, List, [], ◌++◌, length, get_or}
-use Rattle.octets.specs.Octets.{part, put}
+use Rattle.octets.specs.Octets.{put}
+use Rattle.packet.specs.declared.label.Label as carried
 use Rattle.packet.specs.Frame.{chunk_piece_at}
+use Rattle.packet.specs.Named.{Named}
 use Rattle.packet.specs.Outgoing.{entry, chunk_packet}
 use Rattle.packet.specs.Room.{entry_front}
 use Rattle.machine.specs.Limits.{cut_by}
 use Rattle.machine.specs.Codes.{piece_sent}
 use Rattle.machine.specs.Values.{Cell, Rec, Store}
-use Rattle.machine.specs.Layout.{count_at, id_at, id_width, address_width, rec_off, read_cell, encode}
+use Rattle.machine.specs.Layout.{count_at, read_cell, encode}
 use Rattle.machine.specs.Choice.{chosen}
 use Rattle.machine.specs.Send.{chunks_out, all_acked, done_out, unsettled, aborted_out}
 use Rattle.machine_writes.specs.Links.{Links}
 use Rattle.pieces.specs.InPlace.{remarked}
 
--- a record's id, source and destination, as they stand in its row one behind the other
-abbrev pub names_width : ℕ
-names_width = id_width + address_width + address_width
-
-abbrev pub names_in : List ℕ → ℕ → List ℕ
-names_in b k = part b (rec_off k + id_at) names_width
-
--- an entry of a run between them: from the source to the destination
-abbrev pub entry_of : List ℕ → List ℕ → List ℕ
-entry_of names packet = entry (part names id_width address_width) (part names (id_width + address_width) address_width) packet
-
-abbrev pub id_of : List ℕ → List ℕ
-id_of names = part names 0 id_width
-
--- a chunk: its offset is 1,300 times its index
-unfoldable pub chunk_of : List ℕ → Cell → List ℕ
-chunk_of names c = entry_of names (chunk_packet (id_of names) c.index (cut_by * c.index) c.bytes)
+-- a chunk under a label: its offset is 1,300 times its index
+abbrev pub chunk_of : carried.Label → Cell → List ℕ
+chunk_of l c = entry l.source l.destination (chunk_packet l.id c.index (cut_by * c.index) c.bytes)
 
 -- ---- what is asked and given
 
@@ -38,18 +26,19 @@ abbrev pub chunk_front : ℕ
 chunk_front = entry_front + chunk_piece_at
 
 -- a cell of bytes with links in range, and room for its piece as a chunk
-pub record Turn (b names : List ℕ) (k at room : ℕ) : Type 0 where
+pub record Ready (b : List ℕ) (l : carried.Label) (k room : ℕ) : Type 0 where
   pub links : Links b
   pub some : 1 ≤ k
   pub most : k ≤ get_or b count_at 0
-  pub named : length names ≡ names_width
-  pub fits : at + chunk_front + length (read_cell b k).bytes ≤ room
+  pub named : Named l
+  pub fits : chunk_front + length (read_cell b k).bytes ≤ room
 
--- the piece of the cell at place k was sent: the run goes on at r
-pub record Sends (clock : ℕ) (names : List ℕ) (k at : ℕ) (b run : List ℕ) (r : ℕ) (b' run' : List ℕ) : Type 0 where
-  pub ends : r ≡ at + length (chunk_of names (read_cell b k))
+-- the piece of the cell at place k was sent: it takes r bytes at the start of the run
+pub record Sends (clock : ℕ) (l : carried.Label) (k : ℕ) (b run : List ℕ) (r : ℕ) (b' run' : List ℕ) : Type 0 where
+  pub ends : r ≡ length (chunk_of l (read_cell b k))
   pub store : b' ≡ remarked b k clock piece_sent
-  pub out : run' ≡ put run at (chunk_of names (read_cell b k))
+  pub inside : r ≤ length run
+  pub out : run' ≡ put run 0 (chunk_of l (read_cell b k))
 
 -- `sent` stands at the start of the run, which goes on at r
 pub record Starts (sent run : List ℕ) (r : ℕ) (run' : List ℕ) : Type 0 where

@@ -10,13 +10,13 @@ use Rattle.octets.specs.BoolsLaws.{cases}
 use Rattle.octets.specs.PartsLaws.{put-nil}
 use Rattle.machine.specs.Codes.{state_init, state_in_progress}
 use Rattle.machine.specs.Values.{Cell, Rec, Store}
-use Rattle.machine.specs.Layout.{sending_of, rec_of, encode, decode}
+use Rattle.machine.specs.Layout.{encode, decode}
 use Rattle.machine.specs.Receive.{replaced}
 use Rattle.machine.specs.Choice.{most_sent, chosen}
 use Rattle.machine.specs.Send.{with_held, with_cells, change_at, change, with_stamps, sends_pieces, sent_pieces, all_acked, init_out, done_out, chunks_out, wake_out, woken}
 use Rattle.machine_steps.proofs.Waiting.{acked-waits}
 use Rattle.machine_steps.proofs.Stamps.{stamped-none}
-use Rattle.records.specs.HeldAt.{row_in, rec_in, key_in}
+use Rattle.records.specs.HeldAt.{rec_in, key_in}
 use Rattle.outbox.specs.Leaves.{Here}
 use Rattle.outbox.specs.Sending.{Starts, Wakes, progress_out}
 use Rattle.outbox.specs.PartlyLaws.{change-is, unchanged}
@@ -63,17 +63,22 @@ module _ {b : List ℕ} {link : ℕ} (h : Here b link) where
 
     -- ---- in progress
 
-    pub progress-done : {run out : List ℕ} {n : ℕ} → all_acked r.cells ≡ true → Starts (done_out r) run n out
+    pub progress_done : {run out : List ℕ} {n : ℕ} → all_acked r.cells ≡ true → Starts (done_out r) run n out
         → Wakes (to (with_stamps clock those)) (progress_out clock r) those run n 0 b out
     unfolding chunks_out
-    progress-done a w =
+    progress_done a w =
         let none : those ≡ [] = ap (take most_sent) (acked-waits clock r.cells a) in
         stays (with_stamps clock those) (unstamped clock those none) (rw (a, none)) none w
 
     pub progress-due : all_acked r.cells ≡ false → chunks_out r.label those ≡ progress_out clock r
     progress-due a = sym (rw a (append-nil (chunks_out r.label those)))
 
-    -- ---- by the mark that is read, and by the state
+    pub progress_due : {run out b' : List ℕ} {n k : ℕ} → all_acked r.cells ≡ false
+        → Wakes (to (with_stamps clock those)) (chunks_out r.label those) those run n k b' out
+        → Wakes (to (with_stamps clock those)) (progress_out clock r) those run n k b' out
+    progress_due a w = alike refl (progress-due a) refl w
+
+    -- ---- by the mark and the state
 
     abbrev Woken : List ℕ → ℕ → ℕ → List ℕ → List ℕ → Type 0
     Woken run n k b' out = Wakes (to (woken clock)) (wake_out clock r) (sent_pieces clock r) run n k b' out
@@ -91,44 +96,35 @@ module _ {b : List ℕ} {link : ℕ} (h : Here b link) where
     unfolding woken
     rests e q w = stays (woken clock) (unstamped clock (sent_pieces clock r) (idle e)) q (idle e) w
 
-    module _ {mark : ℕ} (m : mark ≡ (sending_of (row_in b link)).timed_out) where
-      pub woke-late : {run : List ℕ} → mark ≡ 1 → Woken run 0 0 b run
-      unfolding wake_out rec_of
-      woke-late e =
-          let q = eq-eqb r.sending.timed_out 1 (sym m ∙ e) in
-          rests (cases (eqb r.sending.state state_in_progress) (λ z. rw (z, q)) (λ z. rw z)) (rw q) nothing
+    pub woke_late : {run : List ℕ} → eqb r.sending.timed_out 1 ≡ true → Woken run 0 0 b run
+    unfolding wake_out
+    woke_late q = rests (cases (eqb r.sending.state state_in_progress) (λ z. rw (z, q)) (λ z. rw z)) (rw q) nothing
 
-      module _ (e : mark ≡ 1 → ⊥) {state : ℕ} (s : state ≡ (sending_of (row_in b link)).state) where
-        unmarked : eqb r.sending.timed_out 1 ≡ false
-        unfolding rec_of
-        unmarked = ne_eqb _ _ (λ z. e (m ∙ z))
+    module _ (unmarked : eqb r.sending.timed_out 1 ≡ false) where
+      is : (n : ℕ) → r.sending.state ≡ n → eqb r.sending.state n ≡ true
+      is n z = eq-eqb _ _ z
 
-        is : (n : ℕ) → state ≡ n → eqb r.sending.state n ≡ true
-        unfolding rec_of
-        is n z = eq-eqb _ _ (sym s ∙ z)
+      is-not : (n : ℕ) → (r.sending.state ≡ n → ⊥) → eqb r.sending.state n ≡ false
+      is-not n z = ne_eqb _ _ z
 
-        is-not : (n : ℕ) → (state ≡ n → ⊥) → eqb r.sending.state n ≡ false
-        unfolding rec_of
-        is-not n z = ne_eqb _ _ (λ w. z (s ∙ w))
+      pub woke_init : {run out : List ℕ} {n : ℕ} → r.sending.state ≡ state_init → Starts (init_out r.label) run n out → Woken run n 0 b out
+      unfolding wake_out chunks_out
+      woke_init z w =
+          let g : sends_pieces r ≡ false = rw (is-not state_in_progress (λ y. omega arith)) in
+          rests g (rw (unmarked, idle g, is state_init z)) w
 
-        pub woke-init : {run out : List ℕ} {n : ℕ} → state ≡ state_init → Starts (init_out r.label) run n out → Woken run n 0 b out
-        unfolding wake_out chunks_out
-        woke-init z w =
-            let g : sends_pieces r ≡ false = rw (is-not state_in_progress (λ y. omega arith)) in
-            rests g (rw (unmarked, idle g, is state_init z)) w
+      pub woke_progress : {run b' out : List ℕ} {n k : ℕ} → r.sending.state ≡ state_in_progress
+          → Wakes (to (with_stamps clock those)) (progress_out clock r) those run n k b' out → Woken run n k b' out
+      unfolding wake_out woken
+      woke_progress z w =
+          let p = is state_in_progress z in
+          let all = active (rw (p, unmarked)) in
+          alike (change-alike (with_stamps clock those) (woken clock) (ap (λ (l : List Cell). with_stamps clock l r) (sym all)))
+          (sym (rw (unmarked, is-not state_init (λ y. omega arith), p, all))) (sym all) w
 
-        pub woke-progress : {run b' out : List ℕ} {n k : ℕ} → state ≡ state_in_progress
-            → Wakes (to (with_stamps clock those)) (progress_out clock r) those run n k b' out → Woken run n k b' out
-        unfolding wake_out woken
-        woke-progress z w =
-            let p = is state_in_progress z in
-            let all = active (rw (p, unmarked)) in
-            alike (change-alike (with_stamps clock those) (woken clock) (ap (λ (l : List Cell). with_stamps clock l r) (sym all)))
-            (sym (rw (unmarked, is-not state_init (λ y. omega arith), p, all))) (sym all) w
-
-        pub woke-settled : {run : List ℕ} → (state ≡ state_init → ⊥) → (state ≡ state_in_progress → ⊥) → Woken run 0 0 b run
-        unfolding wake_out chunks_out
-        woke-settled i p =
-            let q = is-not state_in_progress p in
-            let g : sends_pieces r ≡ false = rw q in
-            rests g (rw (unmarked, idle g, is-not state_init i, q)) nothing
+      pub woke_settled : {run : List ℕ} → (r.sending.state ≡ state_init → ⊥) → (r.sending.state ≡ state_in_progress → ⊥) → Woken run 0 0 b run
+      unfolding wake_out chunks_out
+      woke_settled i p =
+          let q = is-not state_in_progress p in
+          let g : sends_pieces r ≡ false = rw q in
+          rests g (rw (unmarked, idle g, is-not state_init i, q)) nothing

@@ -11,11 +11,17 @@ ghost use Rattle.machine.specs.Packet.{state_row, ack_chunk_row};
 ghost use Rattle.records.specs.HeldAt.{Sends};
 ghost use Rattle.records.specs.Step.{stepped};
 
+use crate::record::Leaving;
 use answer::Refusal;
-use records::{field, find};
+use pieces::walk;
+use records::find::Store;
+use records::restate;
+use rows::head::SEND;
 use rows::record::IN_PROGRESS;
 
-// Ack init, ack done and read: the refusal, or the store with the record in its next state.
+// Ack init, ack done and read: the refusal, or the store with the record in its next state. States are the
+// bytes that a record has, as callers name them.
+#[tactic(auto, unfolding(machine::specs::Refusals::refusal))]
 pub fn advance(send: &mut [u8], id: &[u8], state: u8, next: u8) -> Result<(), Refusal>
     requires { Sends send.old × (next ≤ state_aborted) }
     ensures { let b = send.old in
@@ -24,18 +30,20 @@ pub fn advance(send: &mut [u8], id: &[u8], state: u8, next: u8) -> Result<(), Re
         record { number = answered result; store = send.new }
         ≡ stepped (refusal (state_row state (found k s.held))) (change (with_state next) k s) b }
 {
-    let link = find::find_held(send, id);
-    if send[link] == 0 {
+    let store = Store::<'_, SEND> { bytes: send };
+    let Some(record) = Leaving::find(store, id) else {
         return Err(Refusal::UnknownId);
-    }
-    if field::state(send, link) != state {
+    };
+    if record.state() != state {
         return Err(Refusal::WrongState);
     }
-    records::restate::set_state(send, link, next);
+    let link = record.held.row.link;
+    restate::set_state(send, link, next);
     Ok(())
 }
 
 // Ack chunk: the refusal, or the store with the piece acknowledged.
+#[tactic(auto, unfolding(machine::specs::Refusals::refusal))]
 pub fn ack_chunk(send: &mut [u8], id: &[u8], index: u64) -> Result<(), Refusal>
     requires { Sends send.old }
     ensures { let b = send.old in
@@ -44,16 +52,17 @@ pub fn ack_chunk(send: &mut [u8], id: &[u8], index: u64) -> Result<(), Refusal>
         record { number = answered result; store = send.new }
         ≡ stepped (refusal (ack_chunk_row index (found k s.held))) (change (ack_piece index) k s) b }
 {
-    let link = find::find_held(send, id);
-    if send[link] == 0 {
+    let store = Store::<'_, SEND> { bytes: send };
+    let Some(record) = Leaving::find(store, id) else {
         return Err(Refusal::UnknownId);
-    }
-    if field::state(send, link) != IN_PROGRESS {
+    };
+    if record.state() != IN_PROGRESS {
         return Err(Refusal::WrongState);
     }
-    if index >= pieces::held::count_pieces(send, link) {
+    if index >= walk::count(record.pieces()) {
         return Err(Refusal::NoSuchPiece);
     }
+    let link = record.held.row.link;
     pieces::ack::ack(send, link, index);
     Ok(())
 }

@@ -1,63 +1,70 @@
 // Which pieces of a record a wake sends, and in which order: PROTOCOL, "The tablet". The chain of pieces is
 // walked once, and the first eight so far are kept in a line.
 ghost use Rattle.std.specs.Prelude.{◌≡◌, length};
+ghost use Rattle.std.specs.List.{position};
 ghost use Rattle.machine.specs.Choice.{waiting, most_sent};
-ghost use Rattle.records.specs.HeldAt.{rec_in};
-ghost use Rattle.outbox.specs.Leaves.{Here};
-ghost use Rattle.outbox.specs.Line.{turn, put_in, places_of};
+ghost use Rattle.outbox.specs.Line.{goes_before, put_in, line_of};
 
-use crate::piece::{NEVER, rank};
-use records::field::first_cell;
-use rows::cell::{STEPS, cell_at};
+use crate::piece::rank;
+use crate::record::Leaving;
 
 // How many piece packets a wake sends at most.
 pub const MOST: usize = 8;
 
-// How many of the line go before a piece of that rank: those up to it.
-fn turn_of(ranks: &[u64; 8], rank: u64) -> usize
-    requires { length ranks.now ≡ most_sent }
-    ensures { result ≡ turn rank ranks.now }
-{
-    for i in 0..MOST {
-        if rank < ranks[i] {
-            return i;
-        }
-    }
-    MOST
+// A piece that waits to be sent: its rank, a lower one first, and the place of its cell.
+#[derive(Clone, Copy)]
+pub struct Turn {
+    pub rank: u64,
+    pub place: usize,
 }
 
-// A number comes into the line at a place: those from there on move up, and the last one goes.
-fn put_in(line: &mut [u64; 8], at: usize, number: u64)
+// The pieces that a wake sends, in the order of sending; none behind the last one.
+pub type Line = [Option<Turn>; MOST];
+
+impl Turn {
+    // Whether the piece goes before what stands in a place of the line: a piece of a higher rank, or none.
+    fn goes_before(self, other: Option<Turn>) -> bool
+        ensures { result ≡ goes_before self.rank other }
+    {
+        other.is_none_or(|other| self.rank < other.rank)
+    }
+}
+
+// The first place of the line that the piece goes before; none if eight go before it.
+fn place_of(line: &Line, turn: Turn) -> Option<usize>
+    requires { length line.now ≡ most_sent }
+    ensures { result ≡ position (goes_before turn.rank) line.now }
+{
+    line.iter().position(|other| turn.goes_before(*other))
+}
+
+// A piece comes into the line: those that it goes before move up, and of nine the last one goes.
+#[tactic(auto, using(crate::proofs::Lines::comes))]
+fn put_in(line: &mut Line, turn: Turn)
     requires { length line.old ≡ most_sent }
-    ensures { line.new ≡ put_in at number line.old }
+    ensures { line.new ≡ put_in turn line.old }
 {
-    let mut moved = number;
-    for i in at..MOST {
-        let old = line[i];
-        line[i] = moved;
-        moved = old;
+    if let Some(at) = place_of(line, turn) {
+        line[at..].rotate_right(1);
+        line[at] = Some(turn);
     }
 }
 
-// The pieces that the record which the link at byte `link` leads to sends, by the places of their cells and
-// in the order of sending; 0 behind the last one.
-pub fn choose(send: &[u8], link: usize, clock: u64) -> [u64; 8]
-    requires { Here send.now link }
-    ensures { result ≡ places_of (waiting clock (rec_in send.now link).cells) }
-{
-    let mut ranks = [NEVER; 8];
-    let mut places = [0u64; 8];
-    let mut place = first_cell(send, link);
-    for n in 0..STEPS {
-        if place == 0 {
-            return places;
+impl<'a> Leaving<'a> {
+    ghost use Rattle.outbox.specs.Left.{record_of};
+
+    // The pieces that it sends.
+    #[tactic(auto, using(crate::proofs::Choosing::choosing))]
+    pub fn choose(self, clock: u64) -> Line
+        ensures { result ≡ line_of (waiting clock (record_of self.entry).cells) }
+    {
+        let mut line = [None; MOST];
+        for piece in self.pieces() {
+            if let Some(rank) = rank(piece, clock) {
+                let place = piece.place;
+                put_in(&mut line, Turn { rank, place });
+            }
         }
-        let rank = rank(send, place, clock);
-        let at = turn_of(&ranks, rank);
-        put_in(&mut ranks, at, rank);
-        put_in(&mut places, at, place as u64);
-        let row = cell_at(place);
-        place = usize::from(send[row]);
+        line
     }
-    places
 }

@@ -1,4 +1,5 @@
-// Push: a message starts to leave. Its data is cut by 1,300 into free cells, its record is opened, and its init is sent.
+// Push: a message starts to leave. Its data is cut by 1,300 into free cells, its record is opened, and its
+// init is sent.
 ghost use Rattle.std.specs.Prelude.{◌≡◌, [], ◌<◌, ◌≤◌, length, leb};
 ghost use Rattle.answer.specs.Results.{answered, answer_of};
 ghost use Rattle.packet.specs.Named.{Named};
@@ -16,9 +17,10 @@ use answer::{Done, Refusal};
 use packet::init::MessageInit;
 use packet::label::Label;
 use packet::run;
-use records::find;
+use pieces::walk;
+use records::find::Store;
 use records::open::Times;
-use rows::head::Head;
+use rows::head::{Head, SEND};
 use rows::message;
 
 // The most bytes of a topic.
@@ -27,20 +29,19 @@ const LARGEST_TOPIC: usize = 255;
 // What the run of a push takes at most.
 const ROOM: usize = run::PACKET + MessageInit::TOPIC + LARGEST_TOPIC;
 
-// The last millisecond that a record can hold.
-const LATEST: u64 = 0xffff_ffff_ffff_ffff;
-
 // Row 12: whether there are as many free cells as the message has pieces.
-fn has_cells(send: &[u8], size: usize) -> bool
-    requires { Sends send.now × (size ≤ longest) }
-    ensures { result ≡ leb (slots_of size) (length (decode send.now).free_cells) }
+fn has_cells(store: Store<'_, SEND>, size: usize) -> bool
+    requires { size ≤ longest }
+    ensures { let b = store.entry.bytes.now in
+        result ≡ leb (slots_of size) (length (decode b).free_cells) }
 {
-    message::slots(size as u64) <= pieces::walk::count_free(send)
+    message::slots(size as u64) <= walk::count(store.free_cells())
 }
 
 // Rows 2, 21, 6, 24, 22, 7 and 12: the refusal of a push with room for its run.
+#[tactic(auto, unfolding(machine::specs::Refusals::refusal, octets::specs::Octets::capacity))]
 fn refusal(
-    send: &[u8],
+    store: Store<'_, SEND>,
     id: &[u8],
     topic: &[u8],
     bytes: &[u8],
@@ -48,9 +49,8 @@ fn refusal(
     try_ms: u64,
     room: usize,
 ) -> Result<(), Refusal>
-    requires { Sends send.now }
     ensures { let p = pushed id.now 0 [] [] topic.now bytes.now created try_ms in
-        answered result ≡ refusal (push_tests p (decode send.now) room) }
+        answered result ≡ refusal (push_tests p (decode store.entry.bytes.now) room) }
 {
     if room < ROOM {
         return Err(Refusal::ShortOutput);
@@ -61,33 +61,31 @@ fn refusal(
     if bytes.len() > message::LONGEST_BYTES {
         return Err(Refusal::TooLong);
     }
-    if created > LATEST - try_ms {
+    if created.checked_add(try_ms).is_none() {
         return Err(Refusal::Clock);
     }
-    if find::is_held(send, id) {
+    if store.is_held(id) {
         return Err(Refusal::IdInUse);
     }
-    if !find::is_free(send) {
+    if !store.is_free() {
         return Err(Refusal::NoRecord);
     }
-    if !has_cells(send, bytes.len()) {
+    if !has_cells(store, bytes.len()) {
         return Err(Refusal::NoCell);
     }
     Ok(())
 }
 
-// The place of the first piece of a message: the first free cell, 0 where it has none.
-fn first_place(send: &[u8], size: usize) -> u8
-    requires { Sends send.now }
-    ensures { result ≡ first_place send.now size }
+// The place of the first piece of a message: the first free cell, if it has pieces.
+#[tactic(auto, using(records::specs::ReadableLaws::reads))]
+fn first_place(store: Store<'_, SEND>, size: usize) -> Option<u8>
+    ensures { result ≡ first_place store.entry.bytes.now size }
 {
-    if size == 0 {
-        return 0;
-    }
-    send[Head::FREE_CELLS]
+    (size > 0).then_some(store.bytes[Head::FREE_CELLS])
 }
 
 // A push that is not refused: the pieces of the message are cut, and its record is held.
+#[tactic(auto, using(crate::specs::PushedLaws::push_opened))]
 fn hold(send: &mut [u8], label: Label, topic: &[u8], bytes: &[u8], times: Times)
     requires pushable { Pushable send.old (new_label label topic.now) bytes.now }
     requires created_lt_number_limit { (times.created < number_limit) × (times.end < number_limit) }
@@ -95,12 +93,15 @@ fn hold(send: &mut [u8], label: Label, topic: &[u8], bytes: &[u8], times: Times)
         let s = decode send.old in
         send.new ≡ encode (push_step h times.created times.end bytes.now s) }
 {
-    let cell = first_place(send, bytes.len());
+    let store = Store::<'_, SEND> { bytes: send };
+    // A link of 0 leads nowhere.
+    let cell = first_place(store, bytes.len()).unwrap_or(0);
     pieces::cut::cut(send, bytes);
     records::open::open_leaving(send, cell, label, topic, times);
 }
 
 // The message starts to leave: the store with its record, and its init in the run.
+#[tactic(auto, using(crate::proofs::Pushes::pushing), unfolding(machine::specs::Refusals::refusal))]
 pub fn push(
     send: &mut [u8],
     label: Label,
@@ -115,10 +116,12 @@ pub fn push(
         let o = run.old in
         let p = pushes label topic.now bytes.now created try_ms in
         record { answer = answer_of result; send = send.new; out = run.new }
-        ≡ send_at (refusal (push_tests p (decode b) (length o))) (pushed_into p (decode b)) (init_out (push_label p)) 0 b o }
+        ≡ send_at (refusal (push_tests p (decode b) (length o))) (pushed_into p (decode b))
+        (init_out (push_label p)) 0 b o }
 {
     let id = label.id;
-    refusal(send, &id, topic, bytes, created, try_ms, run.len())?;
+    let store = Store::<'_, SEND> { bytes: send };
+    refusal(store, &id, topic, bytes, created, try_ms, run.len())?;
     let times = Times {
         created,
         end: created + try_ms,

@@ -9,14 +9,16 @@ ghost use Rattle.machine.specs.Layout.{decode};
 ghost use Rattle.machine.specs.Receive.{found};
 ghost use Rattle.machine.specs.Refusals.{refusal};
 ghost use Rattle.machine.specs.Report.{report_room, counted, reported, report_at};
-ghost use Rattle.records.specs.HeldAt.{rec_in, Sends};
-ghost use Rattle.outbox.specs.Leaves.{Here};
+ghost use Rattle.records.specs.HeldAt.{Sends};
 ghost use Rattle.outbox.specs.Rows.{report_tests};
 
+use crate::record::Leaving;
 use answer::Refusal;
 use octets::{copy_in, write};
-use records::field;
+use pieces::walk;
+use records::find::Store;
 use rows::cell::{ACKED, SENT, STARTED};
+use rows::head::SEND;
 use rows::record::IN_PROGRESS;
 
 // Where each part of a report stands behind the destination, and how long it is.
@@ -33,38 +35,42 @@ const ROOM: usize = LENGTH + 8;
 // A second has so many milliseconds.
 const SECOND: u64 = 1000;
 
-// How many pieces of the record that the link at byte `link` leads to are in a state; 0 unless it is in
-// progress.
-fn counted(send: &[u8], link: usize, state: u8) -> u8
-    requires { Here send.now link }
-    ensures { result ≡ counted state (rec_in send.now link) }
-{
-    if field::state(send, link) != IN_PROGRESS {
-        return 0;
-    }
-    pieces::held::count_state(send, link, state) as u8
-}
+impl<'a> Leaving<'a> {
+    ghost use Rattle.outbox.specs.Left.{record_of};
 
-// The report on the record, at the start of the buffer.
-fn put_report(send: &[u8], link: usize, out: &mut [u8])
-    requires { Here send.now link × (report_room ≤ length out.old) }
-    ensures { let r = rec_in send.now link in
-        out.new ≡ put out.old 0 (reported (some r)) }
-{
-    let marks = [
-        field::state(send, link),
-        counted(send, link, STARTED),
-        counted(send, link, SENT),
-        counted(send, link, ACKED),
-    ];
-    copy_in(out, 0, field::destination(send, link));
-    copy_in(out, MARKS, &marks);
-    write::<8>(out, CREATED, field::created(send, link) / SECOND);
-    write::<8>(out, END, field::end(send, link) / SECOND);
-    write::<8>(out, LENGTH, field::total(send, link));
+    // How many of its pieces are in a state; 0 unless it is in progress.
+    fn counted(self, state: u8) -> u8
+        ensures { result ≡ counted state (record_of self.entry) }
+    {
+        if self.state() != IN_PROGRESS {
+            return 0;
+        }
+        walk::count_state(self.pieces(), state) as u8
+    }
+
+    // The report on it, at the start of the buffer.
+    #[tactic(auto, unfolding(machine::specs::Layout::rec_of, machine::specs::Report::reported))]
+    fn put_report(self, out: &mut [u8])
+        requires { report_room ≤ length out.old }
+        ensures { out.new ≡ put out.old 0 (reported (some (record_of self.entry))) }
+    {
+        let row = self.held.row;
+        let marks = [
+            self.state(),
+            self.counted(STARTED),
+            self.counted(SENT),
+            self.counted(ACKED),
+        ];
+        copy_in(out, 0, row.destination());
+        copy_in(out, MARKS, &marks);
+        write::<8>(out, CREATED, row.created() / SECOND);
+        write::<8>(out, END, row.end() / SECOND);
+        write::<8>(out, LENGTH, row.total());
+    }
 }
 
 // The report on the message with that id, into its buffer.
+#[tactic(auto, unfolding(machine::specs::Refusals::refusal))]
 pub fn report(send: &[u8], id: &[u8], out: &mut [u8]) -> Result<(), Refusal>
     requires { Sends send.now }
     ensures { let o = found id.now (decode send.now).held in
@@ -75,10 +81,10 @@ pub fn report(send: &[u8], id: &[u8], out: &mut [u8]) -> Result<(), Refusal>
     if out.len() < ROOM {
         return Err(Refusal::ShortOutput);
     }
-    let link = records::find::find_held(send, id);
-    if send[link] == 0 {
+    let store = Store::<'_, SEND> { bytes: send };
+    let Some(record) = Leaving::find(store, id) else {
         return Err(Refusal::UnknownId);
-    }
-    put_report(send, link, out);
+    };
+    record.put_report(out);
     Ok(())
 }

@@ -130,14 +130,14 @@ module _ {b₀ bytes : List ℕ} (g : Cuttable b₀ bytes) where
 
       -- one more piece, in the cell at the place p
       pub cut_on : {b' : List ℕ} {p x' : ℕ} → p ≡ x → x' ≡ get_or b (cell_off p) 0 → b' ≡ piece_laid b p i (take (length bytes - at) (drop at bytes))
-          → Cutting b₀ bytes b' x' (i + 1) (at + cut_by)
-      cut_on {b'} {p} q e w =
+          → {z : ℕ} → z ≡ at + cut_by → Cutting b₀ bytes b' x' (i + 1) z
+      cut_on {b'} {p} q e w u =
           let all = take_all (length bytes - at) (drop at bytes) (omega (arith, length-drop at bytes)) in
           let is : b' ≡ piece_laid b (first (drop i (free b₀))) i (drop at bytes) =
           w ∙ ap (piece_laid b p i) all ∙ ap (λ (k : ℕ). piece_laid b k i (drop at bytes)) (q ∙ c.from) in
           let behind : rest (drop i (free b₀)) ≡ drop (i + 1) (free b₀) = rest-drop i (free b₀) ∙ ap (λ (k : ℕ). drop k (free b₀)) (sym (add-one i)) in
           let n : slots_of (length bytes) - (i + 1) ≡ slots_of (length bytes) - i - 1 = omega arith in
-          record {
+          rw u record {
             turns = omega (arith, c.turns, c.done);
             done = omega (arith, c.done);
             from = e ∙ ap (λ (k : ℕ). get_or b (cell_off k) 0) (q ∙ c.from) ∙ one.next ∙ ap first behind;
@@ -147,3 +147,5 @@ module _ {b₀ bytes : List ℕ} (g : Cuttable b₀ bytes) where
             gives = (λ k. pieces_laid (cut_pieces (n k) (add-one i k) (sym behind k) (sym (drop-drop cut_by at bytes) k)) (is k)) ∙ one.left
                 ∙ c.gives;
           }
+
+pub ruleset lays = (laid_on, laid-last)

@@ -71,3 +71,5 @@ module _ (b e : List ℕ) (link k i : ℕ) (bytes : List ℕ) (q : link ≡ spot
       w ∙ ap (λ (o : ℕ). inserted b k o i bytes) q
       ∙ ap (λ (t : Bool). cond t (rewritten b (get_or b (spot_in b k i) 0) bytes) (inserted b k (spot_in b k i) i bytes))
       (h ∙ ap (λ (o : ℕ). holds_index b o i) q)
+
+pub ruleset inserts = (grow-written, holds-none, holds-some, insert-written, holds-cell, chunk-held, chunk-new)

@@ -1,5 +1,6 @@
 pub mod Rows
 pub mod Walks
+pub mod Spots
 pub mod Inserts
 pub mod Cuts
 pub mod Sums

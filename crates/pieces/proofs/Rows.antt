@@ -46,3 +46,5 @@ marks-written b b1 b2 at k stamp state i q e1 e2 =
     let w1 = wrote {a = at + 4} {n = 8} e1 (length-be 8 stamp) (omega (arith, i.fits)) in
     let w2 = then (state ∷ []) 1 w1 (e2 ∙ ap (λ (o : ℕ). put b1 o (state ∷ [])) j) refl (omega (arith, i.fits)) in
     w2.is ∙ ap (λ (o : ℕ). put b (o + 4) (be 8 stamp ++ (state ∷ []))) q
+
+pub ruleset rows = (marks-written, row_written)

@@ -1,24 +1,26 @@
--- Walks step by step, as the loops take them: what is left from here gives what the whole gives. Assumes nothing.
+-- Walks step by step, as the loops take them. Assumes nothing.
 use Prim.Native.Nat.{ℕ, zero, suc, ◌+◌, ◌-◌, ◌≤◌, ◌<◌}
 use native.Mathlib.Omega.{arith}
 use mathlib.Core.Path.{◌≡◌, refl, sym, ap, ◌∙◌}
 use mathlib.Core.Bool.{true, false, cond}
 use mathlib.Core.List.{List, [], ◌∷◌, map}
-use lib.ListN.{length, get_or, take, drop}
+use lib.ListN.{length, get_or}
 use lib.Dec.{eqb, leb}
 use borrow.Author.Tests.{eq-eqb, ne_eqb, le-leb, lt-leb}
-use Rattle.octets.specs.Octets.{part, put, num}
+use Rattle.octets.specs.Octets.{put}
 use Rattle.octets.specs.Bools.{one}
-use Rattle.octets.specs.PartsLaws.{put-nil, put-put, part_of}
+use Rattle.octets.specs.PartsLaws.{put-nil, put-put}
 use Rattle.machine.specs.Limits.{cell_bytes, most_cells}
 use Rattle.machine.specs.Values.{Cell}
 use Rattle.machine.specs.Counting.{occurs}
-use Rattle.machine.specs.Layout.{count_at, cell_off, read_cell}
+use Rattle.machine.specs.Layout.{count_at, cell_off}
 use Rattle.machine.specs.Sound.{sizes}
 use Rattle.machine.specs.Pieces.{joined}
-use Rattle.packet.specs.Frame.{largest_piece}
 use Rattle.machine_writes.specs.Links.{Links}
-use Rattle.pieces.specs.ReadLaws.{cell_in, size_of, piece_bytes, piece-size, cells_from, cells-end, cells_out, cells-more}
+use Rattle.soundness.specs.declared.pieces.Pieces.{Pieces}
+use Rattle.soundness.specs.Places.{pieces_left}
+use Rattle.soundness.proofs.Walks.{pieces_few}
+use Rattle.pieces.specs.ReadLaws.{cell_in}
 use Rattle.pieces.specs.InPlace.{piece_state, index_behind, spot_from, LinkIn}
 
 -- the steps of a walk: one more than there are cells
@@ -95,127 +97,40 @@ module _ {b : List ℕ} {from i at n : ℕ} (s : Seeking b from i at n) where
                 ∙ rw (is_some, goes) (λ t. spot_from b (m t) ((ap cell_off (sym q) ∙ sym c) t) i)) ∙ s.gives;
           }
 
--- ---- a piece
+-- ---- pieces one by one
 
--- the piece of the cell k, whose row starts at `from`, has n bytes
-pub record Piece (b : List ℕ) (k from n : ℕ) : Type 0 where
-  pub fits : from + 16 + n ≤ length b
-  pub most : n ≤ largest_piece
-  pub size : length (read_cell b k).bytes ≡ n
-  pub is : take (from + 16 + n - (from + 16)) (drop (from + 16) b) ≡ (read_cell b k).bytes
+pub sizes_none : sizes [] ≡ 0
+unfolding sizes
+sizes_none = refl
 
-pub piece-here : {b : List ℕ} {k from n : ℕ} → Links b → 1 ≤ k → k ≤ get_or b count_at 0 → from ≡ cell_off k → n ≡ num 2 (part b (from + 2) 2)
-    → Piece b k from n
-piece-here {b} {k} {from} {n} h a g q e =
-    let i = cell_in b h k a g in
-    let s : size_of b k ≤ largest_piece = h.sizes k a g in
-    let z : n ≡ size_of b k = e ∙ ap (λ (o : ℕ). num 2 (part b (o + 2) 2)) q in
-    record {
-      fits = omega (arith, i.fits);
-      most = omega (arith, z, s);
-      size = piece-size b k i s ∙ sym z;
-      is = part_of b (from + 16) (from + 16 + n) n (omega arith) ∙ (λ t. part b (q t + 16) (z t)) ∙ sym (piece_bytes b k s);
-    }
+pub sizes_more : (c : Cell) (l : List Cell) → sizes (c ∷ l) ≡ length c.bytes + sizes l
+unfolding sizes
+sizes_more c l = refl
 
--- ---- joined
-
--- the cells left from x on after n steps, joined behind what `out` has up to `at`, give what the cells from `first` on, joined in `start`, give
-pub record Joining (b : List ℕ) (first : ℕ) (start out : List ℕ) (x at n : ℕ) : Type 0 where
-  pub turns : n ≤ steps
-  pub leads : x ≤ get_or b count_at 0
-  pub long : length out ≡ length start
-  pub size : at + sizes (cells_from b (steps - n) x) ≡ sizes (cells_from b steps first)
-  pub gives : put out at (joined (cells_from b (steps - n) x)) ≡ put start 0 (joined (cells_from b steps first))
-
-module _ {b : List ℕ} {first : ℕ} {start out : List ℕ} {x at n : ℕ} (j : Joining b first start out x at n) where
-  -- nothing is left
-  pub joining-done : cells_from b (steps - n) x ≡ [] → (at ≡ sizes (cells_from b steps first)) × (out ≡ put start 0 (joined (cells_from b steps first)))
-  unfolding sizes joined
-  joining-done e = (
-    omega (arith, j.size, ap sizes e),
-    sym (put-nil out at) ∙ ap (λ (l : List Cell). put out at (joined l)) (sym e) ∙ j.gives,
-  )
-
-  -- one more cell
-  module _ (h : n < steps) (k : Met b x (cell_off x)) where
-    abbrev rest : List Cell
-    rest = cells_from b (steps - (n + 1)) (get_or b (cell_off x) 0)
-
-    left : cells_from b (steps - n) x ≡ read_cell b x ∷ rest
-    left =
-        let m : steps - n - 1 ≡ steps - (n + 1) = omega arith in
-        cells-more b (steps - n) x (omega arith) k.some ∙ ap (λ (f : ℕ). read_cell b x ∷ cells_from b f (get_or b (cell_off x) 0)) m
-
-    size-left : at + (length (read_cell b x).bytes + sizes rest) ≡ sizes (cells_from b steps first)
-    unfolding sizes
-    size-left = ap (λ (l : List Cell). at + sizes l) (sym left) ∙ j.size
-
-    pub joining-fits : sizes (cells_from b steps first) ≤ length start → at + length (read_cell b x).bytes ≤ length out
-    joining-fits g = omega (arith, size-left, j.long)
-
-    pub joining-more : {out' : List ℕ} {at' y : ℕ} → sizes (cells_from b steps first) ≤ length start
-        → at' ≡ at + length (read_cell b x).bytes → out' ≡ put out at (read_cell b x).bytes
-        → length out' ≡ length out → y ≡ get_or b (cell_off x) 0 → Joining b first start out' y at' (n + 1)
-    unfolding joined
-    joining-more g e f l q =
-        rw q record {
-          turns = omega arith;
-          leads = k.leads;
-          long = l ∙ j.long;
-          size = omega (arith, size-left);
-          gives = rw (e, f) (put-put out at (at + length (read_cell b x).bytes) (read_cell b x).bytes (joined rest) (joining-fits g) refl
-              ∙ ap (λ (l : List Cell). put out at (joined l)) (sym left) ∙ j.gives);
-        }
-
--- ---- added up
-
--- what g adds up: what each cell gives
-pub record Summing (g : List Cell → ℕ) : Type 0 where
-  pub each : Cell → ℕ
-  pub none : g [] ≡ 0
-  pub more : (c : Cell) (l : List Cell) → g (c ∷ l) ≡ each c + g l
-
--- the cells left from x on after n steps, with `sum` of those before, give what the cells from `first` on give
-pub record Adding (g : List Cell → ℕ) (b : List ℕ) (first x sum n : ℕ) : Type 0 where
-  pub turns : n ≤ steps
-  pub leads : x ≤ get_or b count_at 0
-  pub gives : sum + g (cells_from b (steps - n) x) ≡ g (cells_from b steps first)
-
-module _ {g : List Cell → ℕ} (w : Summing g) {b : List ℕ} {first x sum n : ℕ} (a : Adding g b first x sum n) where
-  -- nothing is left
-  pub added-end : x ≡ 0 → sum ≡ g (cells_from b steps first)
-  added-end e = omega (arith, a.gives, ap g (cells-end b (steps - n) x e), w.none)
-
-  pub added_out : steps ≤ n → sum ≡ g (cells_from b steps first)
-  added_out h = omega (arith, a.gives, ap g (cells_out b (steps - n) x (omega arith)), w.none)
-
-  -- one more cell, which gives z and leads to y
-  pub added_more : n < steps → {cell : ℕ} → Met b x cell → cell ≡ cell_off x → {y z : ℕ} → y ≡ get_or b cell 0 → z ≡ w.each (read_cell b x)
-      → Adding g b first y (sum + z) (n + 1)
-  added_more h m q {y} e f =
-      let k : steps - n - 1 ≡ steps - (n + 1) = omega arith in
-      let left : g (cells_from b (steps - n) x) ≡ w.each (read_cell b x) + g (cells_from b (steps - (n + 1)) y) =
-      ap g (cells-more b (steps - n) x (omega arith) m.some) ∙ w.more (read_cell b x) (cells_from b (steps - n - 1) (get_or b (cell_off x) 0))
-      ∙ (λ t. w.each (read_cell b x) + g (cells_from b (k t) (sym (e ∙ ap (λ (o : ℕ). get_or b o 0) q) t))) in
-      record { turns = omega arith; leads = omega (arith, m.leads, e); gives = omega (arith, a.gives, left, f) }
-
--- how many there are, how many have a state, and how many bytes they have
-abbrev pub ones : Summing length
-ones = record { each = λ c. 1; none = refl; more = λ c l. omega arith }
-
+-- how many have a state
 abbrev pub state_count : ℕ → List Cell → ℕ
 state_count state l = occurs state (map piece_state l)
 
-abbrev pub states : (state : ℕ) → Summing (state_count state)
-states state = record { each = λ c. one (eqb state c.state); none = refl; more = λ c l. refl }
+pub count_none : (state : ℕ) → state_count state [] ≡ 0
+count_none state = refl
 
-pub sizes-none : sizes [] ≡ 0
-unfolding sizes
-sizes-none = refl
+pub count_more : (state : ℕ) (c : Cell) (l : List Cell) → state_count state (c ∷ l) ≡ one (eqb state c.state) + state_count state l
+count_more state c l = refl
 
-pub sizes-more : (c : Cell) (l : List Cell) → sizes (c ∷ l) ≡ length c.bytes + sizes l
-unfolding sizes
-sizes-more c l = refl
+-- joined behind what `out` has up to `at`
+pub joined_none : (out : List ℕ) (at : ℕ) → put out at (joined []) ≡ out
+unfolding joined
+joined_none out at = put-nil out at
 
-abbrev pub sums : Summing sizes
-sums = record { each = λ c. length c.bytes; none = sizes-none; more = sizes-more }
+pub joined_more : (out : List ℕ) (at : ℕ) (c : Cell) (l : List Cell) → at + length c.bytes ≤ length out
+    → put out at (joined (c ∷ l)) ≡ put (put out at c.bytes) (at + length c.bytes) (joined l)
+unfolding joined
+joined_more out at c l h = sym (put-put out at (at + length c.bytes) c.bytes (joined l) h refl)
+
+-- no more than a walk has steps
+pub few : (p : Pieces) → length (pieces_left p) ≤ steps
+few p = omega (arith, pieces_few p, p.few)
+
+pub ruleset seeks = (met, spot_out, spot-end, spot-here, spot-more)
+
+pub ruleset walks = (sizes_none, sizes_more, count_none, count_more, joined_none, joined_more, few)

@@ -13,10 +13,11 @@ use crate::row::put_cell;
 use octets::copy_in;
 use rows::cell::cell_at;
 use rows::head::Head;
-use rows::message::CUT_BYTES;
+use rows::message::{CUT_BYTES, slots};
 
 // The first piece of the bytes that are left, in the free cell at a place; answers the link to the next free cell, where it
 // leads too if more bytes follow.
+#[tactic(auto, using(crate::proofs::Cuts::lays))]
 fn lay(store: &mut [u8], place: usize, index: u8, bytes: &[u8]) -> u8
     requires { CellIn store.old place }
     ensures { let b = store.old in
@@ -33,7 +34,7 @@ fn lay(store: &mut [u8], place: usize, index: u8, bytes: &[u8]) -> u8
     next
 }
 
-// The pieces of the bytes, in the first free cells.
+// The pieces of the bytes, in the first free cells: by the index, which each cell's row has.
 pub fn cut(store: &mut [u8], bytes: &[u8])
     requires { (sound role_send store.old ≡ true) × (length bytes.now ≤ longest)
         × (slots_of (length bytes.now) ≤ length (decode store.old).free_cells) }
@@ -44,12 +45,9 @@ pub fn cut(store: &mut [u8], bytes: &[u8])
         store.new ≡ cut_bytes b (cut_pieces n 0 free d) (drop n free) }
 {
     let mut free = store[Head::FREE_CELLS];
-    let mut index: u8 = 0;
-    let mut at: usize = 0;
-    while at < bytes.len() {
-        free = lay(store, usize::from(free), index, &bytes[at..]);
-        index += 1;
-        at += CUT_BYTES;
+    for index in 0..slots(bytes.len() as u64) as u8 {
+        let left = &bytes[CUT_BYTES * usize::from(index)..];
+        free = lay(store, usize::from(free), index, left);
     }
     let rest = [free];
     copy_in(store, Head::FREE_CELLS, &rest);

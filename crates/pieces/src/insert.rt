@@ -10,13 +10,15 @@ ghost use Rattle.machine_writes.specs.Links.{Links};
 ghost use Rattle.records.specs.HeldAt.{place_at, rec_in, key_in, HeldAt};
 ghost use Rattle.pieces.specs.InPlace.{holds_index, grown, inserted, chunked, LinkIn, Spot, PieceFits};
 
+use crate::link::CellLink;
 use crate::row::{put_cell, rewrite};
 use octets::copy_in;
-use rows::cell::{Cell, cell_at};
+use rows::cell::cell_at;
 use rows::head::Head;
 use rows::record::{Record, record_at};
 
 // A record's slots, grown to index + 1.
+#[tactic(auto, using(crate::proofs::Inserts::inserts))]
 pub fn grow(store: &mut [u8], place: usize, index: u64)
     requires { (1 ≤ place) × (place ≤ rec_count) × (rec_off place + rec_bytes ≤ length store.old)
         × (index + 1 < 256) }
@@ -28,20 +30,8 @@ pub fn grow(store: &mut [u8], place: usize, index: u64)
     copy_in(store, at, &one);
 }
 
-// Whether the link at byte `link` leads to a piece of that index.
-pub fn holds(store: &[u8], link: usize, index: u64) -> bool
-    requires { Links store.now × LinkIn store.now link }
-    ensures { result ≡ holds_index store.now link index }
-{
-    let place = usize::from(store[link]);
-    if place == 0 {
-        return false;
-    }
-    let row = cell_at(place);
-    index == u64::from(store[row + Cell::INDEX])
-}
-
 // A new piece in the first free cell, put into the record's chain at the link at byte `link`.
+#[tactic(auto, using(crate::proofs::Inserts::inserts))]
 pub fn insert(store: &mut [u8], place: usize, link: usize, index: u64, bytes: &[u8])
     requires { let b = store.old in
         Links b × LinkIn b link × PieceFits place index (length bytes.now) × (0 < get_or b free_cells_at 0) }
@@ -61,13 +51,14 @@ pub fn insert(store: &mut [u8], place: usize, link: usize, index: u64, bytes: &[
 }
 
 // A piece of the record at a place, at a new index or at one that is held, by the link that was found for it.
+#[tactic(auto, using(crate::proofs::Inserts::inserts))]
 fn put_in(store: &mut [u8], place: usize, link: usize, index: u64, bytes: &[u8])
     requires { let b = store.old in
         Links b × Spot b place index link × PieceFits place index (length bytes.now)
         × (holds_index b link index ≡ false → 0 < get_or b free_cells_at 0) }
     ensures { store.new ≡ chunked store.old place index bytes.now }
 {
-    if holds(store, link, index) {
+    if (CellLink { store, at: link }).holds(index) {
         let cell = usize::from(store[link]);
         rewrite(store, cell, bytes);
     } else {

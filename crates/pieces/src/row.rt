@@ -37,6 +37,7 @@ pub fn rewrite(store: &mut [u8], place: usize, bytes: &[u8])
 }
 
 // A piece's stamp and state.
+#[tactic(auto, using(crate::proofs::Rows::rows))]
 pub fn mark(store: &mut [u8], place: usize, stamp: u64, state: u8)
     requires { CellIn store.old place }
     ensures { store.new ≡ remarked store.old place stamp state }

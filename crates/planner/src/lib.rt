@@ -6,7 +6,6 @@
 ghost use Rattle.std.specs.Prelude.{◌≡◌, ◌*◌, ◌≤◌, min, length};
 ghost use Rattle.octets.specs.Octets.{put};
 ghost use Rattle.answer.specs.Results.{answer_of};
-ghost use Rattle.packet.specs.Frame.{largest_piece};
 ghost use Rattle.machine.specs.Limits.{longest};
 ghost use Rattle.planner.specs.Plan.{words, plan_of};
 ghost use Rattle.planner.specs.Form.{planned, plannable};
@@ -28,7 +27,8 @@ fn has_list(total: u64, count: u64) -> bool
     (least <= count) & ((count <= record::MOST_OF_SOURCE) & (count <= most))
 }
 
-// Writes so many sizes at the start of `out`, 2 bytes each.
+// Writes so many sizes at the start of `out`, 2 bytes each. By the index, since what `chunks_mut` lends is not said of all
+// of `out` again.
 fn write_sizes(total: u64, count: usize, out: &mut [u8])
     requires { 2 * count ≤ length out.old }
     ensures { out.new ≡ put out.old 0 (words (planned count total)) }

@@ -54,3 +54,5 @@ module _ {end first : ℕ} {b₀ b : List ℕ} {p n : ℕ} (h : Freeing end firs
 pub clear-is : (b : List ℕ) {m l : List ℕ} (first : ℕ) {to : ℕ} → m ≡ free_from (get_or b free_cells_at 0) (suc most_cells) first b
     → to ≡ or_else (get_or b free_cells_at 0) first → l ≡ put m free_cells_at (to ∷ []) → l ≡ clear_from first b
 clear-is b first e f w = w ∙ (λ i. put (e i) free_cells_at (f i ∷ []))
+
+pub ruleset clears = (cell-is, frees-out, frees-end, frees-on, clear-is)

@@ -63,3 +63,5 @@ module _ {k b : List ℕ} {at link n : ℕ} (h : Following k b at link n) where
           where
             next : suc rec_count - (n + 1) ≡ rec_count - n
             next = omega arith
+
+pub ruleset follows = (ends-out, ends-zero, ends-here, goes_on)

@@ -3,4 +3,5 @@ pub mod Opens
 pub mod Clears
 pub mod Releases
 pub mod Fields
+pub mod Finds
 pub mod Finishes

@@ -50,3 +50,5 @@ pub opened-is : (b m l : List ℕ) (row : ℕ) → row ≡ rec_off (get_or b fre
 opened-is b m l row e w1 w2 =
     w2 ∙ (λ i. put (w1 i) free_at (get_or b row 0 ∷ get_or b free_at 0 ∷ []))
     ∙ (λ i. put (put b (e i) (get_or b held_at 0 ∷ [])) free_at (get_or b (e i) 0 ∷ get_or b free_at 0 ∷ []))
+
+pub ruleset written = (front-is, rest-is, opened-is)

@@ -22,3 +22,5 @@ unlinked-is b {row = row} link q e f w1 w2 =
     let starts : row ≡ rec_off (get_or b link 0) = e ∙ ap rec_off q in
     w2 ∙ (λ i. released (q i) (f i) (w1 i))
     ∙ (λ i. released (get_or b link 0) (get_or b (starts i + first_cell_at) 0) (put b link (get_or b (starts i) 0 ∷ [])))
+
+pub ruleset freed = (record_is, unlinked-is)

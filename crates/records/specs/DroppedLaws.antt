@@ -219,3 +219,5 @@ unlinked-takes b y h = go (decode b).whole refl
     go [] e =
         absurd (omega (arith, h.linked.some, head_byte role_receive (decode b) v b w whole_at (omega arith), ap (λ (x : List Rec). first (map rec_place x)) e))
     go (r ∷ l) e = taken-encode (decode b) v b w r l e
+
+pub ruleset drops = (here-droppable, unlinked-drops, unlinked-takes)

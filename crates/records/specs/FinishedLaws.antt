@@ -55,3 +55,5 @@ module _ (b : List ℕ) (y : Bytes b) (at : ℕ) (h : HeldAt role_receive b at) 
       ap (λ (o : ℕ). finished at o b) e ∙ done-bytes
       ∙ Encodes.done-encode role_receive b y h.sound (key_in b at) r (held-here role_receive b y at h) refl c
       ∙ ap (λ (o : Option Rec). encode (done_at o s)) (sym (held-here role_receive b y at h))
+
+pub ruleset finishes = (last-inside, finished-encode)

@@ -5,6 +5,7 @@ pub mod Step
 pub mod RefuseLaws
 pub mod HeldAt
 pub mod MetLaws
+pub mod ReadableLaws
 pub mod AroundLaws
 pub mod HeldPiecesLaws
 pub mod Restating

@@ -6,7 +6,7 @@ use Rattle.std.proofs.Math.Option.{Option, none, some}
 use Rattle.octets.specs.Octets.{Bytes}
 use Rattle.octets.specs.Lists.{All}
 use Rattle.octets.specs.PartsLaws.{part-part}
-use Rattle.machine.specs.Limits.{rec_count, rec_bytes}
+use Rattle.machine.specs.Limits.{longest, rec_count, rec_bytes}
 use Rattle.machine.specs.Codes.{held_kind}
 use Rattle.machine.specs.Values.{Rec, Key, same_key}
 use Rattle.machine.specs.Chains.{first}
@@ -173,3 +173,10 @@ module _ (b : List ℕ) (at : ℕ) where
   pub rec-cells : (rec_in b at).cells ≡ read_cells b (get_or (row_in b at) first_cell_at 0)
   unfolding rec_of
   rec-cells = refl
+
+-- its message is not too long
+pub total_short : (role : ℕ) (b : List ℕ) (link t : ℕ) → Bytes b → HeldAt role b link → t ≡ (label_of (row_in b link)).total → t ≤ longest
+unfolding rec_of
+total_short role b link t y h e = omega (arith, e, (here-fine role b y link h).total)
+
+pub ruleset here = (here-reached, here-links, total_short)

@@ -185,3 +185,5 @@ module _ (b : List ℕ) (y : Bytes b) (h : Label) (g : Ready b h) where
       go : (l : List ℕ) → s.free ≡ l → opened_with kind_arriving (started (get_or b free_at 0) h) b ≡ encode (init_at none h s)
       go [] e = absurd (omega (arith, g.free.some, head_byte role_receive s v b rep free_at (omega arith), ap first e))
       go (q ∷ qs) e = encoded q qs e
+
+pub ruleset opens = (row_written, row-ready, row_opens, fine-fields, ready-opened)

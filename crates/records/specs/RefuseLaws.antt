@@ -2,16 +2,17 @@
 use Rattle.std.specs.Prelude.{ℕ, ◌≡◌, refl, Bool, true, false, List, [], ◌∷◌, ◌++◌, ltb}
 use Rattle.std.specs.Prelude.{Result}
 use Rattle.std.specs.Result.{IsErrAnd}
-use Rattle.std.proofs.Common.{arith, ap, ne_eqb, ltb-true}
+use Rattle.std.proofs.Common.{arith, sym, ap, ◌∙◌, ne_eqb, ltb-true}
+use Rattle.std.proofs.Math.Option.{Option, none, some}
 use Rattle.std.proofs.lemmas.Result.{err_from_is_err_and}
 use Rattle.answer.specs.declared.Refusal.{Refusal}
 use Rattle.answer.specs.Answers.{number}
 use Rattle.answer.specs.Results.{answered}
 use Rattle.answer.specs.AnswersLaws.{some_number}
 use Rattle.octets.specs.BoolsLaws.{cases, split}
-use Rattle.machine.specs.Values.{Store}
+use Rattle.machine.specs.Values.{Rec, Store}
 use Rattle.machine.specs.Layout.{encode}
-use Rattle.machine.specs.Refusals.{Refusals, refusal}
+use Rattle.machine.specs.Refusals.{Refusals, refusal, asks_of}
 use Rattle.machine_steps.proofs.Refusals.{positive}
 use Rattle.records.specs.Step.{stepped}
 
@@ -27,6 +28,25 @@ stop t n l e = rw e
 pub clear : refusal [] ≡ 0
 unfolding refusal
 clear = refl
+
+-- .. towards the answer
+pub stops : (t : Bool) (n : ℕ) (l : Refusals) → t ≡ false → n ≡ refusal ((t, n) ∷ l)
+stops t n l e = sym (stop t n l e)
+
+pub nexts : (t : Bool) (m n : ℕ) (l : Refusals) → t ≡ true → m ≡ refusal l → m ≡ refusal ((t, n) ∷ l)
+nexts t m n l e f = f ∙ sym (next t n l e)
+
+pub clears : 0 ≡ refusal []
+clears = sym clear
+
+pub ruleset rows = (stops, nexts, clears)
+
+-- a row that asks a record: where none has the id, and where one has
+pub unknown : (o : Option Rec) (tests : Rec → Refusals) → o ≡ none → 8 ≡ refusal (asks_of o tests)
+unknown o tests e = rw e (stops false 8 [] refl)
+
+pub known : (o : Option Rec) (r : Rec) (tests : Rec → Refusals) (n : ℕ) → o ≡ some r → n ≡ refusal (tests r) → n ≡ refusal (asks_of o tests)
+known o r tests n e f = rw e f
 
 -- a row's front: where one of its tests fails, and where none does
 pub front-stop : (row rest : Refusals) (n : ℕ) → n ≡ refusal row → (n ≡ 0 → ⊥) → n ≡ refusal (row ++ rest)
@@ -59,3 +79,12 @@ pub refused_up : (e : Refusal) (r : Result (Unit {0}) Refusal) (s : Store) (b : 
 refused_up e r s b m h f =
     let p = err_from_is_err_and r h in
     rw (p.1, p.2) (refused (number e) s b m f (λ z. omega (arith, z, some_number e)))
+
+-- the step of a call that asks a record: where none has the id, and where one has
+pub unknown_step : (s : Store) (b : List ℕ) (o : Option Rec) (tests : Rec → Refusals) → o ≡ none
+    → record { number = 8; store = b } ≡ stepped (refusal (asks_of o tests)) s b
+unknown_step s b o tests e = refused 8 s b (refusal (asks_of o tests)) (unknown o tests e) (λ z. omega arith)
+
+pub known_step : (s : Store) (b c : List ℕ) (o : Option Rec) (r : Rec) (tests : Rec → Refusals) → o ≡ some r → 0 ≡ refusal (tests r) → c ≡ encode s
+    → record { number = 0; store = c } ≡ stepped (refusal (asks_of o tests)) s b
+known_step s b c o r tests e f g = done s b c (refusal (asks_of o tests)) (known o r tests 0 e f) g

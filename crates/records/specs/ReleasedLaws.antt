@@ -44,3 +44,5 @@ unlink-loose at x b h = record {
       (links-chain b (get_or b (rec_off (get_or b at 0) + first_cell_at) 0) h.links (h.links.firsts (get_or b at 0) h.some h.led.small))
       (omega (arith, h.led.inside)) (byte-other b at x free_cells_at (omega (arith, h.led.inside, h.links.long)) h.led.no_free);
 }
+
+pub ruleset releases = (free-chain, unlink-loose)

@@ -141,3 +141,5 @@ module _ (b : List ℕ) (y : Bytes b) (at : ℕ) (g : HeldAt role_receive b at) 
 
     pub restarted : LabelFine h → key_of h ≡ key_in b at → (l : List ℕ) → l ≡ clear_from x m → l ≡ encode (init_at (some r) h s)
     restarted fine same l q = q ∙ (λ i. clear_from (x-is i) (m-is i)) ∙ encoded fine same
+
+pub ruleset restarts = (restart-chain, restarted)

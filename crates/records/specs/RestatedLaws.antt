@@ -87,3 +87,5 @@ module _ (b : List ℕ) (y : Bytes b) (at : ℕ) (h : HeldAt role_send b at) whe
       (λ i. restated (e i) (f i) 1 b) ∙ (λ i. restated (rec_off p) (over_state (get_or b (e i + state_at) 0)) 1 b)
       ∙ (λ i. restated (rec_off p) (over_state (state-is i)) 1 b)
       ∙ restated-encode (over_state r.sending.state) 1 over-small (omega arith) ∙ ap encode (changed-here timed_out)
+
+pub ruleset restates = (state-set, time-over)

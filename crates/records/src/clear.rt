@@ -10,6 +10,7 @@ use rows::cell;
 use rows::head::Head;
 
 // The link `next`, or `end` where the chain ends.
+#[tactic(auto, unfolding(crate::specs::Clearing::or_else))]
 fn or_else(end: u8, next: u8) -> u8
     ensures { result ≡ or_else end next }
 {
@@ -34,6 +35,7 @@ fn free_cell(store: &mut [u8], place: usize, end: u8) -> usize
 }
 
 // The cells from the place `first` on are freed; the last one leads to the place `end`.
+#[tactic(auto, using(crate::proofs::Clears::clears))]
 fn free_cells(store: &mut [u8], first: usize, end: u8)
     requires { Clearable first end store.old }
     ensures { store.new ≡ free_from end (suc most_cells) first store.old }
@@ -48,6 +50,7 @@ fn free_cells(store: &mut [u8], first: usize, end: u8)
 }
 
 // The chain of cells that starts at the place `first` is freed, in front of the free cells.
+#[tactic(auto, using(crate::proofs::Clears::clears))]
 pub fn clear(store: &mut [u8], first: usize)
     requires { Clearable first (get_or store.old free_cells_at 0) store.old }
     ensures { store.new ≡ clear_from first store.old }

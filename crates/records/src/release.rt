@@ -27,6 +27,7 @@ fn free_record(store: &mut [u8], place: usize)
 }
 
 // The record at a place and its cells, from the place `first` on, are freed.
+#[tactic(auto, using(crate::specs::ReleasedLaws::releases))]
 fn release(store: &mut [u8], place: usize, first: usize)
     requires { Releasable place first store.old }
     ensures { store.new ≡ released place first store.old }
@@ -36,6 +37,7 @@ fn release(store: &mut [u8], place: usize, first: usize)
 }
 
 // The record whose link stands at byte `link` leaves its chain and is released.
+#[tactic(auto, using(crate::proofs::Releases::freed, crate::specs::ReleasedLaws::releases))]
 fn unlink(store: &mut [u8], link: usize)
     requires { Droppable link store.old }
     ensures { store.new ≡ unlinked link store.old }
@@ -49,6 +51,7 @@ fn unlink(store: &mut [u8], link: usize)
 }
 
 // The held record whose link stands at byte `link` is dropped.
+#[tactic(auto, using(crate::specs::DroppedLaws::drops))]
 pub fn drop(store: &mut [u8], link: usize)
     requires { (role : ℕ) × HeldAt role store.old link }
     ensures { let b = store.old in

@@ -1,79 +1,78 @@
-// The kinds of lines, by their first word, but for `woke unseen`. Each is a place in the counts of a list.
+// The kinds of lines, and how many of each a list has.
 
-use crate::text;
+use std::fmt;
 
-// The calls.
-pub(crate) const PUSH: usize = 0;
-
-pub(crate) const PACKET: usize = 1;
-
-pub(crate) const WAKE: usize = 2;
-
-pub(crate) const REPORT: usize = 3;
-
-pub(crate) const TAKE: usize = 4;
-
-pub(crate) const RULES: usize = 5;
-
-pub(crate) const KNOWN: usize = 6;
-
-// What is told of a call; these are above the calls.
-pub(crate) const NUMBER: usize = 7;
-
-pub(crate) const SENT: usize = 8;
-
-pub(crate) const SHOWN: usize = 9;
-
-pub(crate) const WOKE: usize = 10;
-
-pub(crate) const UNSEEN: usize = 11;
-
-// Neither.
-pub(crate) const OTHER: usize = 12;
-
-// The kind of a line that tells of a call.
-fn told(word: &[u8]) -> usize {
-    if octets::equal(word, b"number") {
-        return NUMBER;
-    }
-    if octets::equal(word, b">") {
-        return SENT;
-    }
-    if octets::equal(word, b"=") {
-        return SHOWN;
-    }
-    if octets::equal(word, b"woke") {
-        return WOKE;
-    }
-    OTHER
+// A call, or what is told of one. Its number is its place in the counts.
+#[derive(Clone, Copy, PartialEq, Eq)]
+pub(crate) enum Kind {
+    Push,
+    Packet,
+    Wake,
+    Report,
+    Take,
+    Rules,
+    Known,
+    Number,
+    Sent,
+    Shown,
+    Woke,
+    Unseen,
 }
 
-// The kind of a line.
-pub(crate) fn of(line: &[u8]) -> usize {
-    let word = text::word(line, 0);
-    if octets::equal(word, b"push") {
-        return PUSH;
+impl Kind {
+    const COUNT: usize = 12;
+
+    // The kind of a line with these words, if it has one.
+    pub(crate) fn of(words: &[&[u8]]) -> Option<Kind> {
+        let (first, rest) = words.split_first()?;
+        let kind = match *first {
+            b"push" => Kind::Push,
+            b"packet" => Kind::Packet,
+            b"wake" => Kind::Wake,
+            b"report" => Kind::Report,
+            b"take" => Kind::Take,
+            b"rules" => Kind::Rules,
+            b"known" => Kind::Known,
+            b"number" => Kind::Number,
+            b">" => Kind::Sent,
+            b"=" => Kind::Shown,
+            b"woke" if matches!(rest, [b"unseen"]) => Kind::Unseen,
+            b"woke" => Kind::Woke,
+            _ => return None,
+        };
+        Some(kind)
     }
-    if octets::equal(word, b"packet") {
-        return PACKET;
+
+    // Whether it tells of a call; the others are calls.
+    pub(crate) fn tells(self) -> bool {
+        matches!(
+            self,
+            Kind::Number | Kind::Sent | Kind::Shown | Kind::Woke | Kind::Unseen
+        )
     }
-    if octets::equal(word, b"wake") {
-        return WAKE;
+}
+
+// How many lines of each kind agree.
+#[derive(Clone, Copy)]
+pub(crate) struct Counts([u64; Kind::COUNT]);
+
+impl Counts {
+    pub(crate) const NONE: Counts = Counts([0; Kind::COUNT]);
+
+    // One more line of that kind.
+    pub(crate) fn add(&mut self, kind: Kind) {
+        let place = kind as usize;
+        self.0[place] = self.0[place].wrapping_add(1);
     }
-    if octets::equal(word, b"report") {
-        return REPORT;
+}
+
+impl fmt::Display for Counts {
+    fn fmt<W: fmt::Write>(&self, f: &mut fmt::Formatter<W>) -> fmt::Result {
+        let [push, packet, wake, report, take, rules, known, ..] = self.0;
+        let [.., number, sent, shown, woke, unseen] = self.0;
+        write!(f, "push {push}, packet {packet}, wake {wake}, ")?;
+        write!(f, "report {report}, take {take}, rules {rules}, ")?;
+        write!(f, "known {known}; number {number}, > {sent}, ")?;
+        write!(f, "= {shown}, woke {woke}, unseen {unseen}")
     }
-    if octets::equal(word, b"take") {
-        return TAKE;
-    }
-    if octets::equal(word, b"rules") {
-        return RULES;
-    }
-    if octets::equal(word, b"known") {
-        return KNOWN;
-    }
-    if octets::equal(line, b"woke unseen") {
-        return UNSEEN;
-    }
-    told(word)
 }

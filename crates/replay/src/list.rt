@@ -1,158 +1,117 @@
 // A list, line by line: its calls are made, and what it tells of each is compared with the answer.
 
-ghost use Rattle.std.specs.Prelude.{◌≤◌, length};
+use crate::kind::{Counts, Kind};
+use crate::make::Node;
+use crate::room::{RUN, STORE, TAKEN};
+use crate::text;
+use crate::text::Words;
+use crate::told::{Call, Output, Why};
 
-use crate::make::Made;
-use crate::told::{Call, Told, Why};
-use crate::{kind, make, room, text, told};
-
-// What holds between two lines: where the lines with the rule book and the known keys start (past the text:
-// there is none yet), and the last call.
+// The first line that differs, by its number, and what is wrong with it.
 #[derive(Clone, Copy)]
-struct State {
-    rules: usize,
-    known: usize,
-    call: Call,
+pub(crate) struct Difference {
+    pub(crate) line: usize,
+    pub(crate) why: Why,
 }
 
-// What comes of a line: the next state, or what is wrong with the line at that place.
-#[derive(Clone, Copy)]
-enum Next {
-    On(State),
-    Stop(usize, Why),
-}
-
-// What comes of a list.
-#[derive(Clone, Copy)]
-pub(crate) enum Outcome {
-    Same,
-    Differs(usize, Why),
-}
-
-// One more line of that kind.
-fn bump(counts: &mut [u64; kind::OTHER], kind: usize) {
-    if kind < kind::OTHER {
-        counts[kind] = counts[kind].wrapping_add(1);
+impl Why {
+    fn at(self, line: usize) -> Difference {
+        Difference { line, why: self }
     }
 }
 
-// The state after the call of that kind at a place: a rule book or the known keys stay in force.
-fn after(s: State, at: usize, kind: usize, call: Call) -> State {
-    let mut rules = s.rules;
-    let mut known = s.known;
-    if kind == kind::RULES {
-        rules = at;
-    }
-    if kind == kind::KNOWN {
-        known = at;
-    }
-    State {
-        rules: rules,
-        known: known,
-        call: call,
-    }
+// A list up to a line: the node, the last call with all that calls have put out, and how many lines agree.
+#[derive(Drop)]
+struct List<'s, 't> {
+    node: Node<'s, 't>,
+    last: Option<Call>,
+    out: Output,
+    counts: Counts,
 }
 
-// A line that tells of the last call.
-fn tell(line: &[u8], at: usize, kind: usize, s: State, run: &[u8], out: &[u8]) -> Next {
-    let call = s.call;
-    match told::line(line, kind, call, run, out) {
-        Told::Same(more) => Next::On(State {
-            rules: s.rules,
-            known: s.known,
-            call: more,
-        }),
-        Told::Differs(why) => Next::Stop(at, why),
-    }
-}
-
-// A line with a call: all is told of the last one.
-fn call(
-    text: &[u8],
-    at: usize,
-    kind: usize,
-    s: State,
-    me: &[u8; 16],
-    recv: &mut [u8],
-    send: &mut [u8],
-    run: &mut [u8],
-    out: &mut [u8],
-) -> Next {
-    let last = s.call;
-    if let Told::Differs(why) = told::all(last) {
-        return Next::Stop(last.at, why);
-    }
-    let line = text::line(text, at);
-    let rules = text::line(text, s.rules);
-    let known = text::line(text, s.known);
-    match make::call(line, kind, me, rules, known, recv, send, run, out) {
-        Made::Of(answer) => Next::On(after(s, at, kind, told::made(at, kind, answer))),
-        Made::Bad => Next::Stop(at, Why::Form),
-    }
-}
-
-// The line at a place.
-fn step(
-    text: &[u8],
-    at: usize,
-    s: State,
-    me: &[u8; 16],
-    recv: &mut [u8],
-    send: &mut [u8],
-    run: &mut [u8],
-    out: &mut [u8],
-    counts: &mut [u64; kind::OTHER],
-) -> Next {
-    let line = text::line(text, at);
-    if !text::says(line) {
-        return Next::On(s);
-    }
-    let kind = kind::of(line);
-    bump(counts, kind);
-    if kind < kind::NUMBER {
-        return call(text, at, kind, s, me, recv, send, run, out);
-    }
-    tell(line, at, kind, s, run, out)
-}
-
-// What comes of a list that ends in that state.
-fn ended(s: State) -> Outcome {
-    let last = s.call;
-    match told::all(last) {
-        Told::Same(_) => Outcome::Same,
-        Told::Differs(why) => Outcome::Differs(last.at, why),
-    }
-}
-
-// The lines from `start` on, for the node with that address and these stores.
-pub(crate) fn play(
-    text: &[u8],
-    start: usize,
-    me: &[u8; 16],
-    recv: &mut [u8],
-    send: &mut [u8],
-    counts: &mut [u64; kind::OTHER],
-) -> Outcome
-    requires { start ≤ length text.now }
-{
-    let mut run = [0u8; room::RUN];
-    let mut out = [0u8; room::TAKEN];
-    let mut s = State {
-        rules: text.len(),
-        known: text.len(),
-        call: told::made(start, kind::OTHER, make::DONE),
-    };
-    let mut at = start;
-    while at < text.len() {
-        match step(text, at, s, me, recv, send, &mut run, &mut out, counts) {
-            Next::On(next) => {
-                s = next;
-            }
-            Next::Stop(place, why) => {
-                return Outcome::Differs(place, why);
-            }
+impl<'s, 't> List<'s, 't> {
+    fn new(node: Node<'s, 't>) -> Self {
+        List {
+            node,
+            last: None,
+            out: Output {
+                run: [0; RUN],
+                shown: [0; TAKEN],
+            },
+            counts: Counts::NONE,
         }
-        at = text::after(text, at);
     }
-    ended(s)
+
+    // Whether all is told of the last call.
+    fn all_told(&self) -> Result<(), Difference> {
+        let Some(call) = self.last else {
+            return Ok(());
+        };
+        let line = call.line;
+        call.all_told().map_err(|why| why.at(line))
+    }
+
+    // A line with a call.
+    fn call(
+        &mut self,
+        kind: Kind,
+        number: usize,
+        line: &'t [u8],
+        words: &[&'t [u8]],
+    ) -> Result<(), Why> {
+        let outcome = self.node.call(kind, line, words, &mut self.out);
+        self.last = Some(Call::new(number, kind, outcome.ok_or(Why::Form)?));
+        Ok(())
+    }
+
+    // A line that tells of the last call.
+    fn tell(&mut self, kind: Kind, words: &[&[u8]]) -> Result<(), Why> {
+        let mut call = self.last.ok_or(Why::Form)?;
+        call.tell(kind, words, &self.out)?;
+        self.last = Some(call);
+        Ok(())
+    }
+
+    // The line with that number.
+    fn step(&mut self, number: usize, line: &'t [u8]) -> Result<(), Difference> {
+        let words = Words::of(line);
+        let words = words.as_slice();
+        let kind = Kind::of(words).ok_or(Why::Form.at(number))?;
+        let outcome = if kind.tells() {
+            self.tell(kind, words)
+        } else {
+            self.all_told()?;
+            self.call(kind, number, line, words)
+        };
+        outcome.map_err(|why| why.at(number))?;
+        self.counts.add(kind);
+        Ok(())
+    }
+}
+
+// The lines behind so many, with the calls of that node.
+fn play<'t>(text: &'t [u8], first: usize, node: Node<'_, 't>) -> Result<Counts, Difference> {
+    let mut list = List::new(node);
+    for (at, line) in text.split(|b| *b == b'\n').enumerate().skip(first) {
+        if text::says(line) {
+            list.step(at + 1, line)?;
+        }
+    }
+    list.all_told()?;
+    Ok(list.counts)
+}
+
+// Replays a list, and counts its lines by their kinds.
+pub(crate) fn replay(text: &[u8]) -> Result<Counts, Difference> {
+    let mut lines = text.split(|b| *b == b'\n').enumerate();
+    let Some((at, line)) = lines.find(|(_, line)| text::says(line)) else {
+        return Err(Why::Form.at(text.split(|b| *b == b'\n').count()));
+    };
+    let number = at + 1;
+    let mut recv = [0xeeu8; STORE];
+    let mut send = [0xeeu8; STORE];
+    match Node::fresh(line, &mut recv, &mut send) {
+        Ok(node) => play(text, number, node),
+        Err(why) => Err(why.at(number)),
+    }
 }

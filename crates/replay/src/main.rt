@@ -10,13 +10,12 @@ mod list;
 mod make;
 mod node;
 mod room;
-mod show;
 mod shown;
 mod text;
 mod told;
 mod value;
 
-use list::Outcome;
+use list::Difference;
 use std::io::Read;
 use std::rt::Files;
 use std::{env, fs, io};
@@ -24,41 +23,29 @@ use std::{env, fs, io};
 // A list that has so many bytes is too long.
 const MOST: usize = 131072;
 
-// Replays the list of that text, and says what came of it. Answers how many differ: 0 or 1.
-fn replay(rt: &impl Print, text: &[u8]) -> io::Result<u64> {
-    let mut counts = [0u64; kind::OTHER];
-    match node::replay(text, &mut counts) {
-        Outcome::Same => {
-            show::counts(rt, &counts)?;
-            Ok(0)
-        }
-        Outcome::Differs(at, why) => {
-            let line = text::count(text::part(text, 0, at), b'\n').wrapping_add(1);
-            show::why(rt, line, why)?;
-            Ok(1)
-        }
-    }
-}
-
-// Replays the list in the file of that name.
-fn file<R: Files + Alloc + Print>(rt: &R, name: &str) -> io::Result<u64> {
-    show::say(rt, name.as_bytes())?;
+// Replays the list in the file of that name, and writes what came of it. Answers whether it differs.
+fn differs<R: Files + Alloc + Print>(rt: &R, name: &str) -> io::Result<bool> {
+    print!(rt; "{name}")?;
     let Ok(file) = fs::open(rt, name) else {
-        show::say(rt, b": it cannot be opened\n")?;
-        return Ok(1);
+        println!(rt; ": it cannot be opened")?;
+        return Ok(true);
     };
     let mut text = Vec::new(rt.alloc());
     file.take(MOST as u64).read_to_end(&mut text)?;
     if text.len() == MOST {
-        show::say(rt, b": it is too long\n")?;
-        return Ok(1);
+        println!(rt; ": it is too long")?;
+        return Ok(true);
     }
-    replay(rt, &text)
-}
-
-// Replays the list that an argument names.
-fn argument<R: Files + Alloc + Print>(rt: &R, name: String<R::A>) -> io::Result<u64> {
-    file(rt, &name)
+    match list::replay(&text) {
+        Ok(counts) => {
+            println!(rt; ": {counts}")?;
+            Ok(false)
+        }
+        Err(Difference { line, why }) => {
+            println!(rt; ": line {line}: {why}")?;
+            Ok(true)
+        }
+    }
 }
 
 // Replays the lists that the arguments name.
@@ -66,10 +53,10 @@ fn main(rt: HostRuntime) -> io::Result<()> {
     let mut all: u64 = 0;
     let mut differ: u64 = 0;
     for name in env::args(&rt)?.skip(1) {
-        differ = differ.wrapping_add(argument(&rt, name)?);
+        if differs(&rt, &name)? {
+            differ = differ.wrapping_add(1);
+        }
         all = all.wrapping_add(1);
     }
-    show::field(&rt, b"", all)?;
-    show::field(&rt, b" lists replayed, ", differ)?;
-    show::say(&rt, b" with a difference\n")
+    println!(rt; "{all} lists replayed, {differ} with a difference")
 }

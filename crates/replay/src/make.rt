@@ -1,207 +1,130 @@
 // The calls, made on the library as a line says.
 
-use crate::value::Value;
-use crate::{key, kind, room, text, value};
-use answer::Answer;
+use crate::kind::Kind;
+use crate::told::Output;
+use crate::{key, room, value};
+use answer::{Done, Refusal};
 use calendar::ALWAYS;
+use packet::header;
 
-// The answer of a call that gives nothing.
-pub(crate) const DONE: Answer = Answer {
-    number: 0,
-    run: 0,
-    wake: 0,
-    pieces: 0,
-};
+// What a call gives, or nothing where its line is not of the form.
+type Made = Option<Result<Done, Refusal>>;
 
-// What a line makes: the library's answer, or nothing where it is not of the form.
-#[derive(Clone, Copy)]
-pub(crate) enum Made {
-    Of(Answer),
-    Bad,
+// The node that a list's calls are made on, with its stores.
+#[derive(Drop)]
+pub(crate) struct Node<'s, 't> {
+    pub(crate) address: [u8; 16],
+    pub(crate) recv: &'s mut [u8],
+    pub(crate) send: &'s mut [u8],
+    // The bytes of the rule book, as a line says them.
+    pub(crate) rules: &'t [u8],
+    // The line with the known keys, or an empty one.
+    pub(crate) known: &'t [u8],
 }
 
-// The push of a message with that id and destination: what follows TO on its line.
-fn push_to(
-    line: &[u8],
-    id: &[u8; 8],
-    me: &[u8; 16],
-    to: &[u8; 16],
-    reply: u64,
-    send: &mut [u8],
-    run: &mut [u8],
-) -> Made {
-    let mut topic = [0u8; 512];
-    let Value::Is(t) = value::bytes(line, 4, &mut topic) else {
-        return Made::Bad;
-    };
-    let mut bytes = [0u8; room::MESSAGE];
-    let Value::Is(n) = value::bytes(line, 5, &mut bytes) else {
-        return Made::Bad;
-    };
-    let Value::Is(created) = value::number(line, 6) else {
-        return Made::Bad;
-    };
-    let Value::Is(try_ms) = value::number(line, 7) else {
-        return Made::Bad;
-    };
-    let topic = text::part(&topic, 0, t as usize);
-    let bytes = text::part(&bytes, 0, n as usize);
-    Made::Of(message::push(send, id, reply, me, to, topic, bytes, created, try_ms, run).into())
-}
+impl<'t> Node<'_, 't> {
+    // `push ID REPLY TO TOPIC DATA CREATED TRY`, from the node's address.
+    fn push(&mut self, words: &[&[u8]], run: &mut [u8]) -> Made {
+        let [_, id, reply, to, topic, data, created, try_ms] = words else {
+            return None;
+        };
+        let id = value::name(id)?;
+        let reply = value::flag(reply)?;
+        let to = value::name(to)?;
+        let mut topic_room = [0u8; 512];
+        let topic = value::bytes(topic, &mut topic_room)?;
+        let mut data_room = [0u8; room::MESSAGE];
+        let data = value::bytes(data, &mut data_room)?;
+        let created = value::number(created)?;
+        let try_ms = value::number(try_ms)?;
+        let from = self.address;
+        Some(message::push(
+            self.send, &id, reply, &from, &to, topic, data, created, try_ms, run,
+        ))
+    }
 
-// `push ID REPLY TO TOPIC DATA CREATED TRY`, from the node's address.
-fn push(line: &[u8], me: &[u8; 16], send: &mut [u8], run: &mut [u8]) -> Made {
-    if text::rest(line) != 7 {
-        return Made::Bad;
+    // `packet FROM TO BYTES`.
+    fn packet(&mut self, words: &[&[u8]], run: &mut [u8]) -> Made {
+        let [_, from, to, bytes] = words else {
+            return None;
+        };
+        let from = value::name(from)?;
+        let to = value::name(to)?;
+        let mut frame = [0u8; room::FRAME];
+        value::bytes(bytes, &mut frame)?;
+        let mut book = [0u8; room::BOOK];
+        let rules = value::bytes(self.rules, &mut book)?;
+        let known = u64::from(key::is_known(self.known, self.recv, &frame[..header::ID_SIZE]));
+        Some(message::packet(self.recv, self.send, &frame, &from, &to, rules, known, run))
     }
-    let mut id = [0u8; 8];
-    if !value::name(line, 1, &mut id) {
-        return Made::Bad;
-    }
-    let Value::Is(reply) = value::flag(line, 2) else {
-        return Made::Bad;
-    };
-    let mut to = [0u8; 16];
-    if !value::name(line, 3, &mut to) {
-        return Made::Bad;
-    }
-    push_to(line, &id, me, &to, reply, send, run)
-}
 
-// The rule book of a line `rules BYTES`, into `out`; before any such line, the book that accepts every topic:
-// a zero, as `out` has it.
-fn book(line: &[u8], out: &mut [u8]) -> Value {
-    if line.len() == 0 {
-        return Value::Is(1);
+    // `wake KIND ID CLOCK`, within hours: the original has none.
+    fn wake(&mut self, words: &[&[u8]], run: &mut [u8]) -> Made {
+        let [_, kind, id, clock] = words else {
+            return None;
+        };
+        let kind = value::number(kind)?;
+        let id = value::name(id)?;
+        let clock = value::number(clock)?;
+        Some(message::wake(self.send, kind, &id, clock, &ALWAYS, 0, run))
     }
-    value::bytes(line, 1, out)
-}
 
-// A frame comes in, by the lines with the rule book and with the known keys.
-fn arrive(
-    frame: &[u8; room::FRAME],
-    from: &[u8; 16],
-    to: &[u8; 16],
-    rules_line: &[u8],
-    known_line: &[u8],
-    recv: &mut [u8],
-    send: &mut [u8],
-    run: &mut [u8],
-) -> Made {
-    let mut out = [0u8; room::BOOK];
-    let Value::Is(n) = book(rules_line, &mut out) else {
-        return Made::Bad;
-    };
-    let known = key::mark(known_line, recv, text::part(frame, 0, 8));
-    let rules = text::part(&out, 0, n as usize);
-    Made::Of(message::packet(recv, send, frame, from, to, rules, known, run).into())
-}
+    // `report ID`.
+    fn report(&self, words: &[&[u8]], shown: &mut [u8]) -> Made {
+        let [_, id] = words else {
+            return None;
+        };
+        let id = value::name(id)?;
+        let told = message::report(self.send, &id, shown);
+        Some(told.map(|()| Done::NOTHING))
+    }
 
-// `packet FROM TO BYTES`.
-fn packet(
-    line: &[u8],
-    rules_line: &[u8],
-    known_line: &[u8],
-    recv: &mut [u8],
-    send: &mut [u8],
-    run: &mut [u8],
-) -> Made {
-    if text::rest(line) != 3 {
-        return Made::Bad;
+    // `take`.
+    fn take(&mut self, words: &[&[u8]], out: &mut Output) -> Made {
+        let [_] = words else {
+            return None;
+        };
+        Some(message::take(self.recv, &mut out.shown, &mut out.run))
     }
-    let mut from = [0u8; 16];
-    if !value::name(line, 1, &mut from) {
-        return Made::Bad;
-    }
-    let mut to = [0u8; 16];
-    if !value::name(line, 2, &mut to) {
-        return Made::Bad;
-    }
-    let mut frame = [0u8; room::FRAME];
-    let Value::Is(_) = value::bytes(line, 3, &mut frame) else {
-        return Made::Bad;
-    };
-    arrive(&frame, &from, &to, rules_line, known_line, recv, send, run)
-}
 
-// `wake KIND ID CLOCK`, within hours: the original has none.
-fn wake(line: &[u8], send: &mut [u8], run: &mut [u8]) -> Made {
-    if text::rest(line) != 3 {
-        return Made::Bad;
+    // `rules BYTES`, which calls nothing: the rule book is in force from here on.
+    fn rules(&mut self, words: &[&'t [u8]]) -> Made {
+        let [_, bytes] = words else {
+            return None;
+        };
+        let mut book = [0u8; room::BOOK];
+        value::bytes(bytes, &mut book)?;
+        self.rules = bytes;
+        Some(Ok(Done::NOTHING))
     }
-    let Value::Is(kind) = value::number(line, 1) else {
-        return Made::Bad;
-    };
-    let mut id = [0u8; 8];
-    if !value::name(line, 2, &mut id) {
-        return Made::Bad;
-    }
-    let Value::Is(clock) = value::number(line, 3) else {
-        return Made::Bad;
-    };
-    Made::Of(message::wake(send, kind, &id, clock, &ALWAYS, 0, run).into())
-}
 
-// `report ID`.
-fn report(line: &[u8], send: &[u8], out: &mut [u8]) -> Made {
-    if text::rest(line) != 1 {
-        return Made::Bad;
+    // `known ADDRESS ..`, which calls nothing: these keys are known from here on.
+    fn known(&mut self, line: &'t [u8]) -> Made {
+        if !key::are_addresses(line) {
+            return None;
+        }
+        self.known = line;
+        Some(Ok(Done::NOTHING))
     }
-    let mut id = [0u8; 8];
-    if !value::name(line, 1, &mut id) {
-        return Made::Bad;
-    }
-    Made::Of(message::report(send, &id, out).into())
-}
 
-// `take`.
-fn take(line: &[u8], recv: &mut [u8], out: &mut [u8], run: &mut [u8]) -> Made {
-    if text::rest(line) != 0 {
-        return Made::Bad;
-    }
-    Made::Of(message::take(recv, out, run).into())
-}
-
-// `rules BYTES`, which calls nothing.
-fn rules(line: &[u8]) -> Made {
-    if text::rest(line) != 1 {
-        return Made::Bad;
-    }
-    let mut out = [0u8; room::BOOK];
-    let Value::Is(_) = book(line, &mut out) else {
-        return Made::Bad;
-    };
-    Made::Of(DONE)
-}
-
-// `known ADDRESS ..`, which calls nothing.
-fn known(line: &[u8]) -> Made {
-    if !key::addresses(line) {
-        return Made::Bad;
-    }
-    Made::Of(DONE)
-}
-
-// The call of a line of that kind. What it puts out goes into `run`, what it shows into `out`.
-pub(crate) fn call(
-    line: &[u8],
-    kind: usize,
-    me: &[u8; 16],
-    rules_line: &[u8],
-    known_line: &[u8],
-    recv: &mut [u8],
-    send: &mut [u8],
-    run: &mut [u8],
-    out: &mut [u8],
-) -> Made {
-    match kind {
-        kind::PUSH => push(line, me, send, run),
-        kind::PACKET => packet(line, rules_line, known_line, recv, send, run),
-        kind::WAKE => wake(line, send, run),
-        kind::REPORT => report(line, send, out),
-        kind::TAKE => take(line, recv, out, run),
-        kind::RULES => rules(line),
-        kind::KNOWN => known(line),
-        _ => Made::Bad,
+    // The call of a line of that kind with these words.
+    pub(crate) fn call(
+        &mut self,
+        kind: Kind,
+        line: &'t [u8],
+        words: &[&'t [u8]],
+        out: &mut Output,
+    ) -> Made {
+        match kind {
+            Kind::Push => self.push(words, &mut out.run),
+            Kind::Packet => self.packet(words, &mut out.run),
+            Kind::Wake => self.wake(words, &mut out.run),
+            Kind::Report => self.report(words, &mut out.shown),
+            Kind::Take => self.take(words, out),
+            Kind::Rules => self.rules(words),
+            Kind::Known => self.known(line),
+            // These tell of a call.
+            Kind::Number | Kind::Sent | Kind::Shown | Kind::Woke | Kind::Unseen => None,
+        }
     }
 }

@@ -2,20 +2,19 @@
 
 use packet::chunk::MessageChunk;
 use packet::run;
+use rows::message::CUT_BYTES;
 use rows::{cell, record};
 
 // A frame, which ends where the largest piece does.
 pub(crate) const FRAME: usize = MessageChunk::PIECE + cell::LARGEST;
 
 // The longest message, and what take gives for it: its record, then its data.
-pub(crate) const MESSAGE: usize = rows::message::LONGEST as usize;
+pub(crate) const MESSAGE: usize = rows::message::LONGEST_BYTES;
 
 pub(crate) const TAKEN: usize = record::BYTES + MESSAGE;
 
 // The longest run: the longest message is cut, and every piece is sent.
-const CUT: usize = rows::message::CUT as usize;
-
-pub(crate) const RUN: usize = MESSAGE / CUT * (run::PACKET + MessageChunk::PIECE + CUT);
+pub(crate) const RUN: usize = MESSAGE / CUT_BYTES * (run::PACKET + MessageChunk::PIECE + CUT_BYTES);
 
 // The largest store.
 pub(crate) const STORE: usize = cell::FIRST + cell::BYTES * cell::MOST;

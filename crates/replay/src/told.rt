@@ -1,23 +1,11 @@
 // What a list tells of a call, compared with the library's answer.
 
-use crate::value::Value;
-use crate::{kind, shown, text, value};
-use answer::Answer;
-use packet::run;
-
-// A call: its line's place in the text and its kind, the library's answer, and what the lines have told of it so far.
-#[derive(Clone, Copy)]
-pub(crate) struct Call {
-    pub(crate) at: usize,
-    pub(crate) kind: usize,
-    pub(crate) number: u64,
-    pub(crate) run: u64,
-    pub(crate) wake: u64,
-    numbered: bool,
-    shown: bool,
-    woke: bool,
-    sent: usize,
-}
+use crate::kind::Kind;
+use crate::room::{RUN, TAKEN};
+use crate::{shown, value};
+use answer::{Answer, Done, Refusal};
+use link::entry::{Entries, frame_of, from_of, is_whole, to_of};
+use std::fmt;
 
 // What is wrong with a line.
 #[derive(Clone, Copy)]
@@ -37,170 +25,159 @@ pub(crate) enum Why {
     Something,
 }
 
-// The call with what was told, or what is wrong.
+impl fmt::Display for Why {
+    fn fmt<W: fmt::Write>(&self, f: &mut fmt::Formatter<W>) -> fmt::Result {
+        match *self {
+            Why::Form => write!(f, "it is not of the form"),
+            Why::Number(n) => write!(f, "the library's number is {n}"),
+            Why::Mark(n) => write!(f, "the library's wake mark is {n}"),
+            Why::Word(k) => write!(f, "word {k} is not what the library gives"),
+            Why::Fewer => write!(f, "the library puts out no such packet"),
+            Why::More => write!(f, "the library puts out more packets"),
+            Why::Nothing => write!(f, "the library shows nothing"),
+            Why::Something => write!(f, "the library shows a report or a message"),
+        }
+    }
+}
+
+// What calls put out: a run of packets, and a report or the message that was taken.
+#[derive(Drop)]
+pub(crate) struct Output {
+    pub(crate) run: [u8; RUN],
+    pub(crate) shown: [u8; TAKEN],
+}
+
+// A call that was made: its line's number and its kind, the library's answer, and what the lines have told of
+// it so far.
 #[derive(Clone, Copy)]
-pub(crate) enum Told {
-    Same(Call),
-    Differs(Why),
+pub(crate) struct Call {
+    pub(crate) line: usize,
+    kind: Kind,
+    // As numbers, since those are what lists tell.
+    answer: Answer,
+    numbered: bool,
+    shown: bool,
+    woke: bool,
+    // The bytes of the packets that were told.
+    sent: usize,
 }
 
-// A call that was made, of which nothing is told yet.
-pub(crate) fn made(at: usize, kind: usize, answer: Answer) -> Call {
-    Call {
-        at: at,
-        kind: kind,
-        number: answer.number,
-        run: answer.run,
-        wake: answer.wake,
-        numbered: false,
-        shown: false,
-        woke: false,
-        sent: 0,
-    }
-}
-
-// Whether the library refused the call, and no line has told so.
-fn refused(call: Call) -> bool {
-    if call.numbered {
-        return false;
-    }
-    call.number != 0
-}
-
-// `number N`.
-fn number(line: &[u8], mut call: Call) -> Told {
-    if call.numbered | (text::rest(line) != 1) {
-        return Told::Differs(Why::Form);
-    }
-    let Value::Is(n) = value::number(line, 1) else {
-        return Told::Differs(Why::Form);
-    };
-    if n != call.number {
-        return Told::Differs(Why::Number(call.number));
-    }
-    call.numbered = true;
-    Told::Same(call)
-}
-
-// The wake mark that a line says.
-fn mark(line: &[u8]) -> Value {
-    if octets::equal(line, b"woke yes") {
-        return Value::Is(1);
-    }
-    if octets::equal(line, b"woke no") {
-        return Value::Is(0);
-    }
-    Value::Bad
-}
-
-// `woke yes` or `woke no`.
-fn woke(line: &[u8], mut call: Call) -> Told {
-    if call.woke | (call.kind != kind::PACKET) {
-        return Told::Differs(Why::Form);
-    }
-    let Value::Is(mark) = mark(line) else {
-        return Told::Differs(Why::Form);
-    };
-    if mark != call.wake {
-        return Told::Differs(Why::Mark(call.wake));
-    }
-    call.woke = true;
-    Told::Same(call)
-}
-
-// `woke unseen`, which any mark agrees with.
-fn unseen(mut call: Call) -> Told {
-    if call.woke | (call.kind != kind::PACKET) {
-        return Told::Differs(Why::Form);
-    }
-    call.woke = true;
-    Told::Same(call)
-}
-
-// `> FROM TO BYTES`: the next packet of the run.
-fn sent(line: &[u8], mut call: Call, run: &[u8]) -> Told {
-    if text::rest(line) != 3 {
-        return Told::Differs(Why::Form);
-    }
-    let at = call.sent;
-    if at as u64 >= call.run {
-        return Told::Differs(Why::Fewer);
-    }
-    if !value::is_bytes(line, 1, run, at.wrapping_add(run::FROM), 16) {
-        return Told::Differs(Why::Word(1));
-    }
-    if !value::is_bytes(line, 2, run, at.wrapping_add(run::TO), 16) {
-        return Told::Differs(Why::Word(2));
-    }
-    let size = value::joined(text::part(run, at, run::FROM)) as usize;
-    let start = at.wrapping_add(run::PACKET);
-    if !value::is_bytes(line, 3, run, start, size) {
-        return Told::Differs(Why::Word(3));
-    }
-    call.sent = start.wrapping_add(size);
-    Told::Same(call)
-}
-
-// `= ..`: a report, or a message that was taken.
-fn shown(line: &[u8], mut call: Call, out: &[u8]) -> Told {
-    if call.number != 0 {
-        return Told::Differs(Why::Nothing);
-    }
-    if call.shown | (text::rest(line) != shown::words(call.kind)) {
-        return Told::Differs(Why::Form);
-    }
-    let wrong = shown::wrong(line, call.kind, out);
-    if wrong != 0 {
-        return Told::Differs(Why::Word(wrong));
-    }
-    call.shown = true;
-    Told::Same(call)
-}
-
-// A line of that kind, which tells of the call: `run` and `out` are what the library wrote. A refusal is told
-// first, and but for packets each thing once; nothing is told before the first call, whose place a call of no
-// kind takes.
-pub(crate) fn line(line: &[u8], kind: usize, call: Call, run: &[u8], out: &[u8]) -> Told {
-    if (kind == kind::OTHER) | (call.kind == kind::OTHER) {
-        return Told::Differs(Why::Form);
-    }
-    if kind == kind::NUMBER {
-        return number(line, call);
-    }
-    if refused(call) {
-        return Told::Differs(Why::Number(call.number));
-    }
-    if kind == kind::SENT {
-        return sent(line, call, run);
-    }
-    if kind == kind::SHOWN {
-        return shown(line, call, out);
-    }
-    if kind == kind::WOKE {
-        return woke(line, call);
-    }
-    unseen(call)
-}
-
-// A call of which all is told: what is not told is number 0, no more packets, wake mark 0 and nothing shown.
-pub(crate) fn all(call: Call) -> Told {
-    if refused(call) {
-        return Told::Differs(Why::Number(call.number));
-    }
-    if call.sent as u64 != call.run {
-        return Told::Differs(Why::More);
-    }
-    if !call.woke {
-        if call.wake != 0 {
-            return Told::Differs(Why::Mark(call.wake));
+impl Call {
+    // Nothing is told of it yet.
+    pub(crate) fn new(line: usize, kind: Kind, outcome: Result<Done, Refusal>) -> Call {
+        Call {
+            line,
+            kind,
+            answer: outcome.into(),
+            numbered: false,
+            shown: false,
+            woke: false,
+            sent: 0,
         }
     }
-    if !call.shown {
-        if call.number == 0 {
-            if shown::words(call.kind) != 0 {
-                return Told::Differs(Why::Something);
-            }
+
+    // A refusal is told before all else.
+    fn refusal_told(&self) -> Result<(), Why> {
+        if self.numbered || self.answer.number == 0 {
+            return Ok(());
+        }
+        Err(Why::Number(self.answer.number))
+    }
+
+    // `number N`.
+    fn number(&mut self, words: &[&[u8]]) -> Result<(), Why> {
+        let [_, number] = words else {
+            return Err(Why::Form);
+        };
+        let number = value::number(number).ok_or(Why::Form)?;
+        if self.numbered {
+            return Err(Why::Form);
+        }
+        if number != self.answer.number {
+            return Err(Why::Number(self.answer.number));
+        }
+        self.numbered = true;
+        Ok(())
+    }
+
+    // `woke yes`, `woke no` or `woke unseen`, with which any mark agrees.
+    fn woke(&mut self, words: &[&[u8]]) -> Result<(), Why> {
+        if self.woke || self.kind != Kind::Packet {
+            return Err(Why::Form);
+        }
+        let mark = match words {
+            [_, b"yes"] => 1,
+            [_, b"no"] => 0,
+            [_, b"unseen"] => self.answer.wake,
+            _ => return Err(Why::Form),
+        };
+        if mark != self.answer.wake {
+            return Err(Why::Mark(self.answer.wake));
+        }
+        self.woke = true;
+        Ok(())
+    }
+
+    // `> FROM TO BYTES`: the next packet of the run.
+    fn sent(&mut self, words: &[&[u8]], run: &[u8; RUN]) -> Result<(), Why> {
+        let [_, from, to, bytes] = words else {
+            return Err(Why::Form);
+        };
+        let left = run.get(self.sent..self.answer.run as usize);
+        let next = left.and_then(|left| Entries(left).next());
+        let entry = next.filter(|entry| is_whole(entry)).ok_or(Why::Fewer)?;
+        if !value::is_bytes(from, &from_of(entry)) {
+            return Err(Why::Word(1));
+        }
+        if !value::is_bytes(to, &to_of(entry)) {
+            return Err(Why::Word(2));
+        }
+        if !value::is_bytes(bytes, frame_of(entry)) {
+            return Err(Why::Word(3));
+        }
+        self.sent += entry.len();
+        Ok(())
+    }
+
+    // `= ..`: a report, or a message that was taken.
+    fn shown(&mut self, words: &[&[u8]], out: &[u8; TAKEN]) -> Result<(), Why> {
+        if self.answer.number != 0 {
+            return Err(Why::Nothing);
+        }
+        if self.shown {
+            return Err(Why::Form);
+        }
+        shown::compare(words, self.kind, out)?;
+        self.shown = true;
+        Ok(())
+    }
+
+    // A line of that kind, which tells of the call. But for packets, each thing is told once.
+    pub(crate) fn tell(&mut self, kind: Kind, words: &[&[u8]], out: &Output) -> Result<(), Why> {
+        if kind == Kind::Number {
+            return self.number(words);
+        }
+        self.refusal_told()?;
+        match kind {
+            Kind::Sent => self.sent(words, &out.run),
+            Kind::Shown => self.shown(words, &out.shown),
+            // `woke ..`, with a mark or `unseen`.
+            _ => self.woke(words),
         }
     }
-    Told::Same(call)
+
+    // Whether all is told: what is not told is number 0, no more packets, wake mark 0 and nothing shown.
+    pub(crate) fn all_told(&self) -> Result<(), Why> {
+        self.refusal_told()?;
+        if self.sent as u64 != self.answer.run {
+            return Err(Why::More);
+        }
+        if !self.woke && self.answer.wake != 0 {
+            return Err(Why::Mark(self.answer.wake));
+        }
+        if !self.shown && self.answer.number == 0 && shown::is_shown(self.kind) {
+            return Err(Why::Something);
+        }
+        Ok(())
+    }
 }

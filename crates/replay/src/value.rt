@@ -1,190 +1,113 @@
 // What the words of a list say: numbers and bytes.
 
-ghost use Rattle.std.specs.Prelude.{◌≤◌};
+ghost use Rattle.std.specs.Prelude.{◌≤◌, length, IfSome};
 
-use crate::{room, text};
+use crate::room;
 
-// The largest number of 64 bits.
-const MOST: u64 = 18446744073709551615;
-
-// A number or a count, or that the word says none.
-#[derive(Clone, Copy)]
-pub(crate) enum Value {
-    Is(u64),
-    Bad,
-}
-
-// The value of a hexadecimal digit, or 16.
-fn digit(b: u8) -> u8
-    ensures { result ≤ 16 }
+// The value of a hexadecimal digit; no capital is one, as it is for `char::to_digit`.
+fn digit(b: u8) -> Option<u8>
+    ensures { IfSome result (λ d. d ≤ 15) }
 {
     match b {
-        b'0'..=b'9' => b - b'0',
-        b'a'..=b'f' => b - b'a' + 10,
-        _ => 16,
+        b'0'..=b'9' => Some(b - b'0'),
+        b'a'..=b'f' => Some(b - b'a' + 10),
+        _ => None,
     }
 }
 
-// Whether the word is the digits of as many bytes as `out` has, which then hold them.
-fn hex(word: &[u8], out: &mut [u8]) -> bool {
-    if word.len() % 2 != 0 {
-        return false;
-    }
-    if word.len() / 2 != out.len() {
-        return false;
-    }
-    for i in 0..out.len() {
-        let high = digit(word[2 * i]);
-        let low = digit(word[2 * i + 1]);
-        if high > 15 {
-            return false;
-        }
-        if low > 15 {
-            return false;
-        }
-        out[i] = 16 * high + low;
-    }
-    true
+// The byte that two digits say.
+fn byte(high: u8, low: u8) -> Option<u8> {
+    Some(16 * digit(high)? + digit(low)?)
 }
 
-// The number that decimal digits say.
-fn decimal(word: &[u8]) -> Value {
-    if word.len() == 0 {
-        return Value::Bad;
+// The digits of as many bytes as `out` has, which then holds them.
+fn hex(word: &[u8], out: &mut [u8]) -> Option<()> {
+    let (pairs, []) = word.as_chunks::<2>() else {
+        return None;
+    };
+    if pairs.len() != out.len() {
+        return None;
+    }
+    for (b, [high, low]) in out.iter_mut().zip(pairs) {
+        *b = byte(*high, *low)?;
+    }
+    Some(())
+}
+
+// Digits, or a run `xx*N`, which is N times the byte xx. Its bytes go to the front of `out`; answers how many
+// there are.
+fn piece(word: &[u8], out: &mut [u8]) -> Option<usize>
+    ensures { IfSome result (λ n. n ≤ length out.old) }
+{
+    match word {
+        [] => None,
+        [high, low, b'*', times @ ..] => {
+            let n = usize::try_from(number(times)?).ok()?;
+            out.get_mut(..n)?.fill(byte(*high, *low)?);
+            Some(n)
+        }
+        digits => {
+            let n = digits.len() / 2;
+            hex(digits, out.get_mut(..n)?)?;
+            Some(n)
+        }
+    }
+}
+
+// An id, an address or a key.
+pub(crate) fn name<const N: usize>(word: &[u8]) -> Option<[u8; N]> {
+    let mut out = [0u8; N];
+    hex(word, &mut out)?;
+    Some(out)
+}
+
+// The number that decimal digits say; none has a sign, as it may for `parse`.
+pub(crate) fn number(word: &[u8]) -> Option<u64> {
+    if word.is_empty() {
+        return None;
     }
     let mut n: u64 = 0;
-    for i in 0..word.len() {
-        let d = digit(word[i]);
-        if d > 9 {
-            return Value::Bad;
+    for b in word {
+        if !b.is_ascii_digit() {
+            return None;
         }
-        let v = u64::from(d);
-        if n > (MOST - v) / 10 {
-            return Value::Bad;
+        n = n.checked_mul(10)?.checked_add(u64::from(*b - b'0'))?;
+    }
+    Some(n)
+}
+
+// Bytes: digits and runs with dots between them, or `-` for none. They are put into `out`.
+pub(crate) fn bytes<'a>(word: &[u8], out: &'a mut [u8]) -> Option<&'a [u8]> {
+    let mut n: usize = 0;
+    if !matches!(word, b"-") {
+        for part in word.split(|b| *b == b'.') {
+            n += piece(part, out.get_mut(n..)?)?;
         }
-        n = 10 * n + v;
     }
-    Value::Is(n)
+    out.get(..n)
 }
 
-// Digits, whose bytes go into `out` from n on; answers how many bytes there are then.
-fn digits(word: &[u8], out: &mut [u8], n: usize) -> Value {
-    if word.len() == 0 {
-        return Value::Bad;
+// 0 or 1.
+pub(crate) fn flag(word: &[u8]) -> Option<u64> {
+    match word {
+        b"0" => Some(0),
+        b"1" => Some(1),
+        _ => None,
     }
-    if n > out.len() {
-        return Value::Bad;
-    }
-    if word.len() / 2 > out.len() - n {
-        return Value::Bad;
-    }
-    let end = n + word.len() / 2;
-    if !hex(word, &mut out[n..end]) {
-        return Value::Bad;
-    }
-    Value::Is(end as u64)
 }
 
-// A run, `xx*N`: N times the byte xx.
-fn run(word: &[u8], out: &mut [u8], n: usize) -> Value {
-    let mut byte = [0u8; 1];
-    if !hex(text::part(word, 0, 2), &mut byte) {
-        return Value::Bad;
-    }
-    if !octets::equal(text::part(word, 2, 1), b"*") {
-        return Value::Bad;
-    }
-    let Value::Is(times) = decimal(text::part(word, 3, word.len())) else {
-        return Value::Bad;
-    };
-    if n > out.len() {
-        return Value::Bad;
-    }
-    if times > (out.len() - n) as u64 {
-        return Value::Bad;
-    }
-    let k = times as usize;
-    octets::fill(out, n, k, byte[0]);
-    Value::Is((n + k) as u64)
+// The number of the bytes, the highest first.
+fn joined(s: &[u8]) -> u64 {
+    s.iter().fold(0, |n, b| (n << 8) | u64::from(*b))
 }
 
-// Digits or a run.
-fn piece(word: &[u8], out: &mut [u8], n: usize) -> Value {
-    if text::find(word, 0, b'*') < word.len() {
-        return run(word, out, n);
-    }
-    digits(word, out, n)
-}
-
-// Bytes: digits and runs with dots between them, or `-` for none. They go into `out`; answers how many there are.
-fn unpack(word: &[u8], out: &mut [u8]) -> Value {
-    if octets::equal(word, b"-") {
-        return Value::Is(0);
-    }
-    let mut end = text::find(word, 0, b'.');
-    let Value::Is(mut n) = piece(text::part(word, 0, end), out, 0) else {
-        return Value::Bad;
-    };
-    while end < word.len() {
-        let start = end + 1;
-        end = text::find(word, start, b'.');
-        let Value::Is(more) = piece(text::part(word, start, end - start), out, n as usize) else {
-            return Value::Bad;
-        };
-        n = more;
-    }
-    Value::Is(n)
-}
-
-// Whether word k of a line is an id, an address or a key, which `out` then holds.
-pub(crate) fn name(line: &[u8], k: usize, out: &mut [u8]) -> bool {
-    hex(text::word(line, k), out)
-}
-
-// The number that word k says.
-pub(crate) fn number(line: &[u8], k: usize) -> Value {
-    decimal(text::word(line, k))
-}
-
-// The bytes that word k says, into `out`; answers how many there are.
-pub(crate) fn bytes(line: &[u8], k: usize, out: &mut [u8]) -> Value {
-    unpack(text::word(line, k), out)
-}
-
-// 0 or 1, as word k says.
-pub(crate) fn flag(line: &[u8], k: usize) -> Value {
-    let word = text::word(line, k);
-    if octets::equal(word, b"0") {
-        return Value::Is(0);
-    }
-    if octets::equal(word, b"1") {
-        return Value::Is(1);
-    }
-    Value::Bad
-}
-
-// The number of the bytes of s, the highest first.
-pub(crate) fn joined(s: &[u8]) -> u64 {
-    let mut n: u64 = 0;
-    for i in 0..s.len() {
-        n = (n << 8) | u64::from(s[i]);
-    }
-    n
-}
-
-// Whether word k says the n bytes of s from a on.
-pub(crate) fn is_bytes(line: &[u8], k: usize, s: &[u8], a: usize, n: usize) -> bool {
+// Whether the word says these bytes.
+pub(crate) fn is_bytes(word: &[u8], s: &[u8]) -> bool {
     let mut out = [0u8; room::MESSAGE];
-    let Value::Is(m) = bytes(line, k, &mut out) else {
-        return false;
-    };
-    octets::equal(text::part(&out, 0, m as usize), text::part(s, a, n))
+    bytes(word, &mut out).is_some_and(|said| said == s)
 }
 
-// Whether word k says the number of the n bytes of s from a on.
-pub(crate) fn is_number(line: &[u8], k: usize, s: &[u8], a: usize, n: usize) -> bool {
-    let Value::Is(m) = number(line, k) else {
-        return false;
-    };
-    m == joined(text::part(s, a, n))
+// Whether the word says the number of these bytes.
+pub(crate) fn is_number(word: &[u8], s: &[u8]) -> bool {
+    number(word).is_some_and(|said| said == joined(s))
 }

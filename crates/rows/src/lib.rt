@@ -1,5 +1,6 @@
 // The rows of a store: where each field stands, and what PROTOCOL's "Stores" asks of one row by itself. The chains of rows are
-// walked in the crate soundness.
+// walked in the crate soundness. A row is a part of a store, lent as a slice that has its length: an array would have to be
+// made of it at each call. A role is the number that a caller gives, and a kind that of a chain.
 
 #![tactic(auto)]
 
@@ -44,7 +45,9 @@ pub fn free(row: &[u8]) -> bool
     octets::zero_part(row, 1, row.len() - 1)
 }
 
-// Whether a row is as its store's role and what it is to hold ask.
+// Whether a row is as its store's role and what it is to hold ask. Inline, so that each caller's loop has the tests
+// of the one kind that it walks.
+#[inline(always)]
 pub fn fits(row: &[u8], role: u64, holds: Holds) -> bool
     requires { Sized holds (length row.now) }
     ensures { result ≡ row_fits role holds (length row.now) row.now }

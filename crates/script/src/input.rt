@@ -31,6 +31,7 @@ fn cut_line(s: &[u8]) -> (&[u8], &[u8])
     }
 }
 
+// `all_letters` is another function: each is one call of the library's, and has its own contract.
 fn all_digits(s: &[u8]) -> bool
     ensures { result ≡ all is_digit s.now }
 {

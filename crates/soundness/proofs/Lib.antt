@@ -2,6 +2,5 @@ pub mod Rises
 pub mod Walks
 pub mod Walking
 pub mod Rests
-pub mod Same
 pub mod Shares
 pub mod Whole

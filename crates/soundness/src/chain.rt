@@ -50,8 +50,8 @@ impl<'a> Store<'a> {
         &self.bytes[start..start + t.size]
     }
 
-    // Walks the chain from `first` on and marks its places: whether each is inside, not marked before, and its row as
-    // asked. Inline, so that each caller's loop knows the size of its rows and what they are to hold.
+    // Walks the chain from `first` on and marks its places by ones: whether each is inside, not marked before, and its
+    // row as asked. Inline, so that each caller's loop knows the size of its rows and what they are to hold.
     #[inline(always)]
     #[tactic(auto, using(crate::proofs::Walking::turns))]
     pub fn marked(self, t: Table, holds: Holds, first: usize, marks: &mut [u8; cell::STEPS]) -> bool

@@ -44,7 +44,7 @@ fn link_of(k: usize, last: usize) -> u8
     if k == last { 0 } else { (k + 1) as u8 }
 }
 
-// All rows of a table, free, with a chain that rises.
+// All rows of a table, free, with a chain that rises: by the index, which each row's link is made of.
 #[tactic(auto, using(crate::proofs::Rises::rows_more, crate::proofs::Rises::rows_none))]
 fn put_rising(store: &mut [u8], t: Table)
     requires { (1 ≤ t.size) × (t.count ≤ most_cells) × (t.start + t.size * t.count ≤ length store.old) }

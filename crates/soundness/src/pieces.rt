@@ -21,11 +21,7 @@ use rows::record::{ARRIVING, LEAVING, Record};
 fn is_next(left: u64, size: u64) -> bool
     ensures { result ≡ next_cut left size }
 {
-    if left <= CUT {
-        0 < left && size == left
-    } else {
-        size == CUT
-    }
+    0 < left && size == left.min(CUT)
 }
 
 // What a record's kind asks of the number of its pieces, of the sum of their sizes, and of their cut.
@@ -88,12 +84,12 @@ impl<'a> Store<'a> {
     }
 }
 
-impl Piece<'_> {
+impl<'a> Piece<'a> {
     ghost use Rattle.soundness.specs.Places.{piece_of};
 
     // Its index.
     #[tactic(auto, unfolding(machine::specs::Layout::cell_of))]
-    fn index(self) -> u64
+    pub fn index(self) -> u64
         ensures { (result ≡ (piece_of self.entry).index) × (result < 256) }
     {
         u64::from(self.row[Cell::INDEX])
@@ -101,10 +97,34 @@ impl Piece<'_> {
 
     // Its size.
     #[tactic(auto, unfolding(machine::specs::Layout::cell_of), using(octets::specs::PartsLaws::length_part))]
-    fn size(self) -> u64
+    pub fn size(self) -> u64
         ensures { (result ≡ length (piece_of self.entry).bytes) × (result < 65536) }
     {
         octets::read::<2>(self.row, Cell::SIZE)
+    }
+
+    // Its bytes, as that part of the store.
+    pub fn bytes(self) -> &'a [u8]
+        ensures { result.now ≡ (piece_of self.entry).bytes }
+    {
+        let end = Cell::PIECE + rows::cell::size(self.row);
+        &self.row[Cell::PIECE..end]
+    }
+
+    // When it was last sent, 0 for never.
+    #[tactic(auto, unfolding(machine::specs::Layout::cell_of))]
+    pub fn stamp(self) -> u64
+        ensures { result ≡ (piece_of self.entry).stamp }
+    {
+        octets::read::<8>(self.row, Cell::STAMP)
+    }
+
+    // Its state.
+    #[tactic(auto, unfolding(machine::specs::Layout::cell_of))]
+    pub fn state(self) -> u8
+        ensures { result ≡ (piece_of self.entry).state }
+    {
+        self.row[Cell::STATE]
     }
 }
 

@@ -2,8 +2,8 @@
 
 ghost use Rattle.std.specs.Prelude.{◌≡◌, true, suc, ◌+◌, ◌≤◌, ◌<◌, length, get_or, []};
 ghost use Rattle.std.specs.Bool.{then_some};
-ghost use Rattle.octets.specs.Octets.{part, same};
 ghost use Rattle.octets.specs.Lists.{all};
+ghost use Rattle.octets.specs.Octets.{part, same};
 ghost use Rattle.machine.specs.Limits.{rec_count, rec_bytes};
 ghost use Rattle.machine.specs.Counting.{inside};
 ghost use Rattle.machine.specs.Chains.{link, walk};
@@ -14,7 +14,7 @@ ghost use Rattle.soundness.specs.Walked.{record_pieces, records_fit, counted};
 
 use crate::chain::Table;
 use crate::store::Store;
-use rows::record::{Record, STEPS};
+use rows::record::{ID_SIZE, Record, STEPS};
 
 // The place of a record.
 #[derive(Clone, Copy)]
@@ -32,15 +32,6 @@ pub struct Records<'a> {
     pub left: usize,
     ghost few: { left ≤ suc rec_count },
     ghost within: { all (inside rec_count) (walk (link (rec_at store.bytes.now)) left next) ≡ true },
-}
-
-// Whether two rows have the same eight bytes at a. Numbers are compared, since every two records are.
-#[tactic(auto, using(crate::proofs::Same::numbers_same))]
-pub fn same_eight(s: &[u8], t: &[u8], a: usize) -> bool
-    requires { (a + 8 ≤ length s.now) × (a + 8 ≤ length t.now) }
-    ensures { result ≡ same (part s.now a 8) (part t.now a 8) }
-{
-    octets::read::<8>(s, a) == octets::read::<8>(t, a)
 }
 
 impl<'a> Store<'a> {
@@ -85,13 +76,26 @@ impl<'a> Store<'a> {
         }
     }
 
+    // Whether the SIZE bytes at FIELD of the records x and y are the same. Both numbers are known where it is called: every
+    // two records are compared, and so many bytes at once.
+    #[tactic(auto, unfolding(octets::specs::Octets::part))]
+    pub fn same_bytes<const FIELD: usize, const SIZE: usize>(self, x: Place, y: Place) -> bool
+        requires { FIELD + SIZE ≤ rec_bytes }
+        ensures { let b = self.entry.bytes.now in
+            result ≡ same (part (rec_at b x.number) FIELD SIZE) (part (rec_at b y.number) FIELD SIZE) }
+    {
+        let one = &self.record(x)[FIELD..FIELD + SIZE];
+        let two = &self.record(y)[FIELD..FIELD + SIZE];
+        octets::equal(one, two)
+    }
+
     // Whether the records x and y have one key.
     #[tactic(auto, unfolding(machine::specs::Values::same_key))]
     fn same_key(self, x: Place, y: Place) -> bool
         ensures { let b = self.entry.bytes.now in
             result ≡ same_key (key_at b x.number) (key_at b y.number) }
     {
-        same_eight(self.record(x), self.record(y), Record::ID)
+        self.same_bytes::<{ Record::ID }, ID_SIZE>(x, y)
     }
 
     // Whether none of the records has the key of the record x.
@@ -131,6 +135,7 @@ impl<'a> Store<'a> {
             (result ≡ records_fit kind b (places records.entry) (places others.entry))
             × (result ≡ true → counts.new ≡ counted b (places records.entry) counts.old) }
     {
+        // no `for`, since what is left of the chain is asked too
         while let Some(x) = records.next() {
             let pieces = self.count_pieces(x, kind);
             let later = self.no_other(x, records);
@@ -154,6 +159,7 @@ impl Iterator for Records<'_> {
 
     ghost remaining = { item_count places };
 
+    // Beside that of pieces, since it gives places, of which two chains are compared, and that gives rows.
     #[tactic(auto, using(crate::proofs::Walks::walks))]
     fn next(&mut self) -> Option<Place> {
         if self.next == 0 || self.left == 0 {

@@ -1,36 +1,24 @@
 // The cells that the records of one source hold together, by the counts of their pieces.
 
 ghost use Rattle.std.specs.Prelude.{◌≡◌, not, ◌&&◌, ◌||◌, suc, ◌*◌, ◌≤◌, ◌<◌, [], eqb};
-ghost use Rattle.octets.specs.Octets.{same};
 ghost use Rattle.machine.specs.Limits.{rec_count, most_of_source};
 ghost use Rattle.machine.specs.Codes.{role_receive};
 ghost use Rattle.machine.specs.Counting.{total};
-ghost use Rattle.soundness.specs.Walked.{source_of, share_at, fair_on};
+ghost use Rattle.soundness.specs.Walked.{share_at, fair_on};
 
-use crate::records::{Place, Records, same_eight};
+use crate::records::{Place, Records};
 use crate::store::Store;
-use rows::record::{MOST_OF_SOURCE, Record, STEPS};
+use rows::record::{ADDRESS_SIZE, MOST_OF_SOURCE, Record, STEPS};
 
 impl Store<'_> {
     ghost use Rattle.soundness.specs.Places.{places};
-
-    // Whether the records x and y have one source.
-    #[tactic(auto, using(crate::proofs::Same::halves_same))]
-    fn same_source(self, x: Place, y: Place) -> bool
-        ensures { let b = self.entry.bytes.now in
-            result ≡ same (source_of b x.number) (source_of b y.number) }
-    {
-        let one = self.record(x);
-        let two = self.record(y);
-        same_eight(one, two, Record::SOURCE) & same_eight(one, two, Record::SOURCE + 8)
-    }
 
     // The cells that the record y holds for the source of the record x.
     #[tactic(auto, unfolding(crate::specs::Walked::share_at))]
     fn share(self, counts: &[u8; STEPS], x: Place, y: Place) -> u64
         ensures { (result ≡ share_at self.entry.bytes.now counts.now x.number y.number) × (result < 256) }
     {
-        if self.same_source(x, y) {
+        if self.same_bytes::<{ Record::SOURCE }, ADDRESS_SIZE>(x, y) {
             u64::from(counts[y.number])
         } else {
             0
@@ -57,6 +45,7 @@ impl Store<'_> {
         ensures { let b = self.entry.bytes.now in
             result ≡ fair_on most_of_source b counts.now (places records.entry) (places others.entry) }
     {
+        // no `for`, since what is left of the chain counts too
         while let Some(x) = records.next() {
             let own = u64::from(counts[x.number]);
             let later = self.shares(counts, x, records);

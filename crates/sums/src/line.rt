@@ -10,7 +10,7 @@ const DIGITS: usize = 64;
 
 pub const BYTES: usize = DIGITS + 1;
 
-// The hexadecimal digit of a number below 16.
+// The hexadecimal digit of a number below 16. By hand, since what is exported rests on the standard library alone.
 fn digit(n: u8) -> u8
     requires { n < 16 }
     ensures { result ≡ hex_digit n }

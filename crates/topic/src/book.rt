@@ -44,6 +44,7 @@ fn is_listed(mut entries: Entries, topic: &[u8]) -> bool
 fn are_distinct(mut entries: Entries) -> bool
     ensures { result ≡ distinct (held_entries entries.entry) }
 {
+    // no `for`, since the entries behind each are asked too
     while let Some(entry) = entries.next() {
         if is_listed(entries, entry.topic) {
             return false;

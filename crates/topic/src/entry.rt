@@ -71,6 +71,7 @@ impl<'a> Entries<'a> {
         ensures { option_map held_entries result ≡ then_some (uncut bytes.now 0) (entries_from bytes.now 0) }
     {
         let mut rest = bytes;
+        // no `for`: what does not split is asked about after the loop
         while let Some((_, behind)) = Entry::split(rest) {
             rest = behind;
         }

@@ -14,6 +14,6 @@ loop-j-preserved c =
     let h : l.j < 4 = omega arith in
     let node = c.node_at-n.ensures
     ∙ ap (block_node g.s.now (word g.c.at l.j) g.i (g.c.first + l.j) g.f) c.lane.ensures in (
-      more u.0 h (search rules) (c.start.ensures ∙ ap start node) c.put-in-loop-j.ensures,
-      more u.1 h (search rules) (ap (λ (n : Node). n.block) node) c.put.ensures,
+      more u.0 h (search rules) (c.start.ensures ∙ ap start node) c.put.ensures,
+      more u.1 h (search rules) (ap (λ (n : Node). n.block) node) c.put-in-loop-j.ensures,
     )

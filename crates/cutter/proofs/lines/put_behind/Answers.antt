@@ -6,12 +6,6 @@ use Rattle.cutter.specs.Text.{item}
 use Rattle.cutter.proofs.FrontsLaws.{wrote_then}
 use Rattle.cutter.proofs.lines.put_behind.Goals as goal
 
-pub copy_in-requires : goal.copy_in-requires
-copy_in-requires c = let v = c.args in omega (arith, c.requires, length-append v.front.now (item v.n v.end))
-
-pub put_item-requires : goal.put_item-requires
-put_item-requires c = let v = c.args in omega (arith, c.requires, length-append v.front.now (item v.n v.end))
-
 pub returns : goal.returns
 returns c =
     let v = c.args in

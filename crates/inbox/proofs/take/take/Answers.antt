@@ -2,6 +2,7 @@
 use Prim.Native.Nat.{ℕ, ◌+◌, ◌≤◌}
 use native.Mathlib.Omega.{arith}
 use mathlib.Core.Path.{◌≡◌, refl, ap, ◌∙◌}
+use mathlib.Core.List.{List}
 use lib.ListN.{length}
 use borrow.Author.Tests.{le-leb, lt-leb}
 use Rattle.octets.specs.Octets.{Bytes}
@@ -20,7 +21,7 @@ use Rattle.records.specs.RefuseLaws.{next, stop, clear}
 use Rattle.inbox.specs.Oldest.{Oldest}
 use Rattle.inbox.specs.OldestLaws.{none-whole, some-whole, oldest-placed, oldest-sized, oldest-fine, total-is}
 use Rattle.inbox.proofs.take.take.Goals as goal
-use Rattle.inbox.proofs.take.take.Lts.View.{up-After-total-total, up-Else-recv-eq0}
+use Rattle.inbox.proofs.take.take.Lts.View.{up-After-total-total}
 use Rattle.inbox.proofs.take.take.Goals.{After-total-total, Else-recv-eq0, Else-taken-total, Start}
 
 -- what the row answers
@@ -33,20 +34,20 @@ bytes c = λ i. (c.slice_known-1.given i).fits
 oldest : (c : Else-recv-eq0) → Oldest c.args.recv.now
 oldest c = record { sound = c.requires; some = omega (arith, c.if-recv-eq0.false) }
 
-abbrev message : Else-recv-eq0 → Rec
-message c = rec_in c.args.recv.now whole_at
+abbrev message : List ℕ → Rec
+message b = rec_in b whole_at
 
 -- .. and its read packet fills its room
-long : (c : Else-recv-eq0) → let h = (message c).label in length (entry h.destination h.source (read_packet h.id)) ≡ take_room
+long : (c : Else-recv-eq0) → let h = (message c.args.recv.now).label in length (entry h.destination h.source (read_packet h.id)) ≡ take_room
 long c =
     let z = (oldest-sized _ (bytes c) (oldest c)).label in
     length-entry _ _ _ z.destination.0 z.source.0 ∙ ap (λ (n : ℕ). 34 + n) (length-header _ 8 z.id.0)
 
-length-is : (c : After-total-total) → c.total-total.result ≡ (message (up-Else-recv-eq0 _ _ _ c.before.before.before)).label.total
+length-is : (c : After-total-total) → c.total-total.result ≡ (message c.args.recv.now).label.total
 length-is c = c.total-total.ensures ∙ total-is c.args.recv.now
 
 -- .. and the buffer holds it
-room : (c : Else-taken-total) → let w = c in taken_room (message (up-Else-recv-eq0 _ _ _ c.before.before.before.before)).label.total ≤ length w.args.taken.now
+room : (c : Else-taken-total) → taken_room (message c.args.recv.now).label.total ≤ length c.args.taken.now
 room c = omega (arith, c.if-taken-total.false, length-is (up-After-total-total _ _ _ c.before.before))
 
 pub bounds-recv-2 : goal.bounds-recv-2
@@ -76,7 +77,7 @@ returns-then-taken-total c =
     let total = c in
     let fits = total in
     let whole = fits in
-    let need = taken_room (message (goal.at.returns-then-taken-total c).Else-recv-eq0).label.total in
+    let need = taken_room (message c.args.recv.now).label.total in
     let short = lt-leb need (length whole.args.taken.now)
     (omega (arith, c.if-taken-total.true, length-is (goal.at.returns-then-taken-total c).After-total-total)) in
     let e : row (goal.at.returns-then-taken-total c).Start
@@ -84,13 +85,8 @@ returns-then-taken-total c =
     (stop _ _ _ (rw (le-leb _ _ fits.if-run-lt-READ_ROOM.false, short))) in
     rw e
 
-pub put_read-requires : goal.put_read-requires
-put_read-requires c = let total = c in (oldest (goal.at.put_read-requires c).Else-recv-eq0, total.if-run-lt-READ_ROOM.false)
-
 pub put_message-requires : goal.put_message-requires
-put_message-requires c =
-    let holds = c in
-    (oldest (goal.at.put_message-requires c).Else-recv-eq0, room (goal.at.put_message-requires c).Else-taken-total)
+put_message-requires c = room (goal.at.put_message-requires c).Else-taken-total
 
 pub take_first-requires : goal.take_first-requires
 take_first-requires c =
@@ -121,6 +117,10 @@ returns c =
       long (goal.at.returns c).Else-recv-eq0,
     )
 
-pub total-total-requires : goal.total-total-requires
-total-total-requires c = let whole = c in
-    oldest-placed _ (bytes (goal.at.total-total-requires c).Else-recv-eq0) (oldest (goal.at.total-total-requires c).Else-recv-eq0)
+pub invariant_of-whole : goal.invariant_of-whole
+invariant_of-whole c =
+    let m = (goal.at.invariant_of-whole c).Else-recv-eq0 in
+    record { octets = bytes m; reached = oldest-placed _ (bytes m) (oldest m) }
+
+pub invariant_of-whole-2 : goal.invariant_of-whole-2
+invariant_of-whole-2 c = record { oldest = oldest (goal.at.invariant_of-whole-2 c).Else-recv-eq0; first = refl }

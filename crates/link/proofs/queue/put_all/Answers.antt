@@ -1,22 +1,18 @@
-use Rattle.std.proofs.Common.{rules, arith, ◌<◌, length, length-take}
-use Rattle.link.proofs.Puts.{putting-more, putting-none, entry-room}
+use Rattle.link.proofs.Puts.{putting-start, putting_room, putting-more, putting-none}
 use Rattle.link.proofs.queue.put_all.Goals as goal
 
-pub put_out-end-requires : goal.put_out-end-requires
-put_out-end-requires c =
-    let rest = c.loop-rest.rest.now in
-    let p = c.loop-rest.invariant in
-    let some : 0 < length c.loop-rest.rest.now = search rules in
-    let size = entry-room c.loop-rest.rest.now c.first_end.result some c.first_end.ensures in
-    rw c.split_at.ensures.front (omega (arith, p.room, p.kept, size), omega (arith, c.requires.1, p.short, length-take c.first_end.result rest))
+pub loop-entry-init : goal.loop-entry-init
+loop-entry-init c =
+    rw c.into_iter-entry-iterator.ensures.into_iter_gives
+    (tt, tt, putting-start c.args.queue.now c.args.mark.tail c.args.mark.letters.now c.args.run.now c.requires.0 c.requires.1)
 
-pub loop-rest-preserved : goal.loop-rest-preserved
-loop-rest-preserved c =
-    let out = c.put_out-end in
-    let front = c.split_at.ensures.front in
-    rw c.split_at.ensures.back
-    (putting-more _ _ _ _ _ _ _ _ _ _ _ _ c.loop-rest.invariant (search rules) c.first_end.ensures
-    (rw front at out.ensures.0, rw front at out.ensures.1) out.auto.queue out.ensures.2)
+pub put_out-end-requires : goal.put_out-end-requires
+put_out-end-requires c = putting_room (rw c.in-Some.ensures.steps at c.loop-entry.invariant.2)
+
+pub loop-entry-preserved : goal.loop-entry-preserved
+loop-entry-preserved c =
+    let out = c.put_out-end.ensures in
+    (tt, tt, putting-more (rw c.in-Some.ensures.steps at c.loop-entry.invariant.2) (out.0, out.1) c.put_out-end.auto.queue out.2)
 
 pub returns : goal.returns
-returns c = putting-none _ _ _ _ _ _ _ _ c.loop-rest.invariant (search rules)
+returns c = putting-none (rw c.in-None.ensures.steps.0 at c.loop-entry.invariant.2)

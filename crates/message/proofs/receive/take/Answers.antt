@@ -17,9 +17,6 @@ returns-then-not-sound c =
 sounds : (c : Else-not-sound) → sound role_receive c.args.recv.now ≡ true
 sounds c = sym c.sound.ensures ∙ c.if-not-sound.false
 
-pub take-requires : goal.take-requires
-take-requires c = sounds (goal.at.take-requires c).Else-not-sound
-
 pub returns : goal.returns
 unfolding take_of take_row refusal
 returns c = let done = c in rw (sounds (goal.at.returns c).Else-not-sound) done.take.ensures

@@ -41,11 +41,6 @@ unfolding push_of push_row refusal
 returns-then-not-sound c =
     rw (sym c.sound.ensures ∙ c.if-not-sound.true) refl
 
-pub push-requires : goal.push-requires
-push-requires c =
-    let made = c in
-    (sounds (goal.at.push-requires c).Else-not-sound, made.labelled-label.ensures.1, ap (λ (l : carried.Label). l.total) made.labelled-label.ensures.0)
-
 pub returns : goal.returns
 unfolding push_of push_row refusal
 returns c =

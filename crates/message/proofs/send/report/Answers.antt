@@ -17,9 +17,6 @@ returns-then-not-sound c =
 sounds : (c : Else-not-sound) → sound role_send c.args.send.now ≡ true
 sounds c = sym c.sound.ensures ∙ c.if-not-sound.false
 
-pub report-requires : goal.report-requires
-report-requires c = sounds (goal.at.report-requires c).Else-not-sound
-
 pub returns : goal.returns
 unfolding report_of report_row refusal
 returns c = let done = c in rw (sounds (goal.at.returns c).Else-not-sound) done.report.ensures

@@ -1,6 +1,4 @@
 -- The invariant: freeing goes on from the cell that is reached, in the store as it is then. Assumes nothing.
-use Prim.Native.Nat.{suc, ◌-◌}
-use Rattle.machine.specs.Limits.{most_cells}
 use Rattle.records.proofs.Clears.{Freeing}
 use Rattle.records.proofs.clear.free_cells.Given as goal
 

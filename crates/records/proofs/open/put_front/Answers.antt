@@ -6,10 +6,5 @@ use Rattle.records.proofs.open.put_front.Goals as goal
 
 pub returns : goal.returns
 returns c =
-    let third = c in
-    let second = third in
-    let first = second in
-    let marked = first in
-    let start = marked in
-    front-is _ _ _ _ _ _ _ _ _ _ _ start.requires.0 start.requires.1 (marked.from.ensures ∙ one_is _) first.slots.ensures
-    first.copy_in.ensures second.copy_in-2.ensures third.copy_in-3.ensures c.copy_in-4.ensures
+    front-is _ _ _ _ _ _ _ _ _ _ _ c.requires.0 c.requires.1 (c.from.ensures ∙ one_is _) c.slots.ensures
+    c.copy_in.ensures c.copy_in-2.ensures c.copy_in-3.ensures c.copy_in-4.ensures

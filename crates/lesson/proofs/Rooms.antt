@@ -15,7 +15,7 @@ use Rattle.machine.specs.Packet.{Packet, packet_of, packet_at, packet_row, arriv
 use Rattle.link.specs.Entries.{entries_of, from_of, to_of, frame_of}
 use Rattle.link.specs.Link.{through, put_out}
 use Rattle.link.specs.Stored.{stored, Waits}
-use Rattle.link.specs.StoredLaws.{first-is, first_rest, more-waits, through-length, stored-small}
+use Rattle.link.specs.StoredLaws.{first-is, first_reach, first_rest, more-waits, through-length, stored-small}
 use Rattle.lesson.specs.Room.{Node, office_address, open_rules, known_key, arrived, reply_of, deliver_first}
 use Rattle.lesson.specs.Steps.{node_of, room_of, asks, asking, replies_room, Handed, Ready, Delivered}
 use Rattle.lesson.specs.RepliesLaws.{answered}
@@ -86,6 +86,16 @@ pub first-room : (b : List ℕ) (head tail : ℕ) (e x : List ℕ) (q : List (Li
     length b
 unfolding asking
 first-room b head tail e x q r f = let h = r.room in omega (arith, ap asks f)
+
+-- the first packet is handed over: it lies in the queue, which has the room for its replies
+pub handed-over : (b : List ℕ) (head tail : ℕ) (e : List ℕ) (q : List (List ℕ)) (size : ℕ) → Ready b head tail e q → size ≡ length e
+    → (head + 2 ≤ head + 2 + size) × (head + 2 + size ≤ length b)
+    × (tail + replies_room * asks (take (head + 2 + size - (head + 2)) (drop (head + 2) b)) ≤ length b)
+handed-over b head tail e q size r f = (
+  omega arith,
+  omega (arith, f, r.waits.within, first_reach b head tail e q r.waits),
+  first-room b head tail e _ q r (entry-is b head tail e q _ r.waits f),
+)
 
 module _ (b c l : List ℕ) (head tail end : ℕ) (rest : List ℕ) (e : List ℕ) (q : List (List ℕ)) (r : Ready b head tail e q) (n : Node) (x y : List ℕ)
     (h : Handed (arrived n e) x y b c l tail end rest) where

@@ -1,6 +1,6 @@
 use Rattle.std.proofs.Common.{rules, arith, sym, ◌∙◌, ◌≡◌, length}
 use Rattle.link.specs.StoredLaws.{first_reach}
-use Rattle.lesson.proofs.Rooms.{entry-is, first-room, office-then, tablet-then}
+use Rattle.lesson.proofs.Rooms.{entry-is, handed-over, office-then, tablet-then}
 use Rattle.lesson.proofs.room.deliver.Goals as goal
 
 pub first_size-requires : goal.first_size-requires
@@ -19,25 +19,13 @@ slice_bounds-to_office-end c =
 
 pub hand_over-requires : goal.hand_over-requires
 hand_over-requires c =
-    let queue = c.args.queue.now in
     let ready = c.requires.ready in
-    let size = c.first_size.ensures queue.mark.tail c.requires.first c.requires.rest ready.waits in (
-      omega arith,
-      omega (arith, size, ready.waits.within, first_reach queue.bytes queue.head queue.mark.tail c.requires.first c.requires.rest ready.waits),
-      first-room queue.bytes queue.head queue.mark.tail c.requires.first _ c.requires.rest ready
-          (entry-is queue.bytes queue.head queue.mark.tail c.requires.first c.requires.rest _ ready.waits size),
-    )
+    handed-over _ _ _ _ _ _ ready (c.first_size.ensures c.args.queue.now.mark.tail c.requires.first c.requires.rest ready.waits)
 
 pub hand_over-requires-2 : goal.hand_over-requires-2
 hand_over-requires-2 c =
-    let queue = c.args.queue.now in
     let ready = c.requires.ready in
-    let size = c.first_size.ensures queue.mark.tail c.requires.first c.requires.rest ready.waits in (
-      omega arith,
-      omega (arith, size, ready.waits.within, first_reach queue.bytes queue.head queue.mark.tail c.requires.first c.requires.rest ready.waits),
-      first-room queue.bytes queue.head queue.mark.tail c.requires.first _ c.requires.rest ready
-          (entry-is queue.bytes queue.head queue.mark.tail c.requires.first c.requires.rest _ ready.waits size),
-    )
+    handed-over _ _ _ _ _ _ ready (c.first_size.ensures c.args.queue.now.mark.tail c.requires.first c.requires.rest ready.waits)
 
 pub returns-then-to_office : goal.returns-then-to_office
 returns-then-to_office c = λ e q r.

@@ -51,8 +51,7 @@ def long_code():
     for folder, suffix, columns in CRATE_COLUMNS:
         for file in sorted(ROOT.glob(f"crates/*/{folder}/**/*{suffix}")):
             for number, line in enumerate(file.read_text().splitlines(), 1):
-                # `rt fmt` keeps an attribute on one line
-                if len(line) > columns and not line.lstrip().startswith("#["):
+                if len(line) > columns:
                     yield f"{file.relative_to(ROOT)}:{number}: {len(line)} columns"
 
 

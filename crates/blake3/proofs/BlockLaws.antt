@@ -1,7 +1,8 @@
 -- A block that is cut, filled up with zeros, has the same words. Assumes nothing.
-use Rattle.std.proofs.Common.{◌≡◌, ℕ, ◌+◌, ◌*◌, ◌<◌, List, ◌++◌, length, get_or, take, drop, replicate}
+use Rattle.std.proofs.Common.{◌≡◌, ℕ, ◌+◌, ◌*◌, ◌<◌, List, get_or}
 use Rattle.std.proofs.Common.{sym, ap, ◌∙◌, add-zero, arith}
-use Rattle.std.proofs.lemmas.List.{places, get_or_past, drop-replicate}
+use Rattle.blake3.specs.Words.{table}
+use Rattle.blake3.specs.Laws.{table_at}
 use Rattle.blake3.specs.Tree.{block_len, word_at, block_at}
 use Rattle.blake3.proofs.TableLaws.{ext}
 
@@ -14,17 +15,13 @@ same_word x y p q h =
     (λ t. get_or x (sym (add-zero p) t) 0) ∙ h 0 (omega arith) ∙ (λ t. get_or y (add-zero q t) 0) in
     rw (e, h 1 (omega arith), h 2 (omega arith), h 3 (omega arith))
 
--- the last n bytes of s, from a on, filled up with zeros to m bytes
-byte : (s : List ℕ) (a n m p q : ℕ) → n + a ≡ length s → p < m → q ≡ a + p
-    → get_or (take n (drop a s) ++ drop n (replicate m 0)) p 0 ≡ get_or s q 0
-byte s a n m p q h l e = grind (arith, places, get_or_past, drop-replicate)
-
--- a block that is cut
-pub block_filled : (s : List ℕ) (i n : ℕ) {x : List ℕ} → n + block_len * i ≡ length s
-    → x ≡ take n (drop (block_len * i) s) → block_at (x ++ drop n (replicate block_len 0)) 0 ≡ block_at s i
+-- a block that is cut: its bytes one by one, and 0 past the end
+pub block_padded : (s : List ℕ) (i : ℕ) {z : List ℕ} → z ≡ table (λ k. get_or s (block_len * i + k) 0) 0 block_len → block_at z 0 ≡ block_at s i
 unfolding block_at
-block_filled s i n h e =
-    ap (λ (y : List ℕ). block_at (y ++ drop n (replicate block_len 0)) 0) e
-    ∙ ext _ _ 16
+block_padded s i e =
+    let h : ℕ → ℕ = λ k. get_or s (block_len * i + k) 0 in
+    ext _ _ 16
     (λ k b. same_word _ _ (block_len * 0 + 4 * k) (block_len * i + 4 * k)
-    (λ j d. byte s (block_len * i) n block_len _ _ h (omega arith) (omega arith)))
+    (λ j d. let q : block_len * i + (block_len * 0 + 4 * k + j) ≡ block_len * i + 4 * k + j = omega arith in
+    ap (λ (y : List ℕ). get_or y (block_len * 0 + 4 * k + j) 0) e
+    ∙ table_at h block_len (block_len * 0 + 4 * k + j) (omega arith) ∙ ap (λ (n : ℕ). get_or s n 0) q))

@@ -1,5 +1,5 @@
 // Chunks, parents, and the tree of them, in any mode.
-ghost use Rattle.std.specs.Prelude.{◌≡◌, ◌+◌, ◌*◌, ◌^◌, ◌<◌, ◌≤◌, length};
+ghost use Rattle.std.specs.Prelude.{◌≡◌, ◌+◌, ◌*◌, ◌^◌, ◌<◌, ◌≤◌, length, get_or};
 ghost use Rattle.blake3.specs.Words.{table};
 ghost use Rattle.blake3.specs.Tree.{block_len, chunk_len, word_at, block_at, flags_at, chunk_node, parent_node, node};
 ghost use Rattle.blake3.specs.Split.{Left};
@@ -29,6 +29,13 @@ const CHUNK_START: u32 = 1;
 pub const CHUNK_END: u32 = 2;
 
 const PARENT: u32 = 4;
+
+// The byte at p, and 0 past the end.
+fn byte_at(s: &[u8], p: usize) -> u8
+    ensures { result ≡ get_or s.now p 0 }
+{
+    s.get(p).copied().unwrap_or(0)
+}
 
 // The word at p, which lies in s, its lowest byte first.
 #[tactic(auto, unfolding(crate::specs::Tree::word_at))]
@@ -62,12 +69,11 @@ fn block_at(s: &[u8], i: usize) -> [u32; 16]
     ensures { result ≡ block_at s.now i }
 {
     let at = BLOCK * i;
-    let size = s.len() - at;
-    if BLOCK <= size {
+    if BLOCK <= s.len() - at {
         return whole_block(s, i);
     }
-    let mut padded = [0u8; BLOCK];
-    padded[..size].copy_from_slice(&s[at..]);
+    // byte by byte: to copy what there is would be a call of the C library's `memcpy`
+    let padded: [u8; BLOCK] = array::from_fn(|k| byte_at(s, at + k));
     whole_block(&padded, 0)
 }
 
@@ -101,7 +107,9 @@ pub fn one_block(mode: &Mode, s: &[u8]) -> Node
     last_node(mode.flags, s, 0, 0, mode.key)
 }
 
-// The node of the chunk s, which is chunk t of the input.
+// The node of the chunk s, which is chunk t of the input. It stands apart, as `four_chunks` does: within `subtree` it would take
+// its stack at each level of the tree.
+#[inline(never)]
 #[tactic(auto, unfolding(crate::specs::Tree::before, crate::specs::Tree::chunk_node, crate::specs::Tree::last_node))]
 fn chunk_node(mode: &Mode, s: &[u8], t: u64) -> Node
     requires { length s.now ≤ chunk_len }
@@ -166,6 +174,7 @@ fn chunk_values(mode: &Mode, s: &[u8], t: u64) -> [u32; 32]
 }
 
 // The node over s, which is three whole chunks and a last one.
+#[inline(never)]
 fn four_chunks(mode: &Mode, s: &[u8], t: u64) -> Node
     requires { Four s.now t }
     ensures { result ≡ node mode.now.key mode.now.flags s.now t }

@@ -5,6 +5,7 @@ ghost use Rattle.answer.specs.Results.{answered};
 ghost use Rattle.topic.specs.Admission.{admission_of};
 ghost use Rattle.machine.specs.Rules.{number_of};
 ghost use Rattle.machine.specs.Layout.{decode};
+ghost use Rattle.machine.specs.Find.{is_some};
 ghost use Rattle.machine.specs.Receive.{found, init_step};
 ghost use Rattle.machine.specs.Refusals.{refusal};
 ghost use Rattle.machine.specs.Valid.{LabelSized};
@@ -42,9 +43,10 @@ fn rules_refusal(reply: bool, from: &[u8; 16], topic: &[u8], rules: &[u8]) -> Re
     admission(rules, topic, from)
 }
 
-// Rows 5 to 7: the refusal of an init.
+// Rows 5 to 7: the refusal of an init, whose id was searched for: whether a record with it is held.
 #[tactic(auto, using(records::specs::RefuseLaws::rows))]
-fn refusal(recv: Store<'_, RECEIVE>, id: &[u8], total: u64) -> Result<(), Refusal>
+fn refusal(recv: Store<'_, RECEIVE>, is_held: bool, id: &[u8], total: u64) -> Result<(), Refusal>
+    requires { is_held ≡ is_some (found id.now (decode recv.bytes.now).held) }
     ensures { let s = decode recv.entry.bytes.now in
         answered result ≡ refusal (place_row id.now total s (found id.now s.held)) }
 {
@@ -54,7 +56,7 @@ fn refusal(recv: Store<'_, RECEIVE>, id: &[u8], total: u64) -> Result<(), Refusa
     if total > rows::message::LONGEST {
         return Err(Refusal::TooLong);
     }
-    if recv.is_held(id) || recv.is_free() {
+    if is_held || recv.is_free() {
         return Ok(());
     }
     Err(Refusal::NoRecord)
@@ -77,8 +79,9 @@ pub fn init(recv: &mut [u8], label: Label, topic: &[u8], rules: &[u8]) -> Result
     let source = label.source;
     rules_refusal(label.reply, &source, topic, rules)?;
     let store = Store::<'_, RECEIVE> { bytes: recv };
-    refusal(store, &id, label.total)?;
-    let Some(held) = store.find(&id) else {
+    let found = store.find(&id);
+    refusal(store, found.is_some(), &id, label.total)?;
+    let Some(held) = found else {
         records::open::open_arriving(recv, label, topic);
         return Ok(());
     };

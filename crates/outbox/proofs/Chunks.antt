@@ -17,14 +17,10 @@ use Rattle.machine.specs.Layout.{count_at, size_at, size_width, num_at, cell_off
 use Rattle.machine_writes.specs.Links.{Links}
 use Rattle.pieces.specs.ReadLaws.{cell_in}
 use Rattle.outbox.specs.Sending.{chunk_of}
+use Rattle.outbox.specs.EntriesLaws.{chunk-length}
 
 pub chunk_long : (l : carried.Label) (c : Cell) → Named l → length (chunk_of l c) ≡ 70 + length c.bytes
-chunk_long l c n =
-    omega (
-      arith,
-      length-entry l.source l.destination (chunk_packet l.id c.index (cut_by * c.index) c.bytes) n.source.0 n.destination.0,
-      length-chunk l.id c.bytes c.index (cut_by * c.index) n.id.0,
-    )
+chunk_long l c n = chunk-length l n c
 
 -- the row of a cell
 module _ (b : List ℕ) (h : Links b) (k : ℕ) (some : 1 ≤ k) (most : k ≤ get_or b count_at 0) where

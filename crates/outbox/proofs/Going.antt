@@ -31,6 +31,7 @@ use Rattle.outbox.specs.declared.choice.Turn.{Turn}
 use Rattle.outbox.specs.Line.{turn_of, line_of}
 use Rattle.outbox.specs.Sending.{chunk_of, Ready, Sends, Wakes}
 use Rattle.outbox.specs.Left.{Carries}
+use Rattle.outbox.specs.EntriesLaws.{chunk-is}
 use Rattle.outbox.specs.RoomLaws.{Cut, chosen-cut, chunks-more, first-room, more_room}
 use Rattle.outbox.specs.PartlyLaws.{cells_then, Partly, change-is, unchanged, partly-links, partly-long, partly-all, next-in, next-read, next-stamped}
 
@@ -73,10 +74,6 @@ next_turn l sent left e h =
     ∙ ap (λ (x : List (Option Turn)). get_or x n None) (map-take most_sent l ∙ ap (map waits) e) ∙ seam sent left
 
 -- ---- what is written
-
--- a chunk under the record's label
-same_chunk : {l : carried.Label} {h : Label} → Carries l h → (c : Cell) → chunk_of l c ≡ chunk_out h c
-same_chunk k c = λ i. entry (k.source i) (k.destination i) (chunk_packet (k.id i) c.index (cut_by * c.index) c.bytes)
 
 -- behind a place
 put-tail : (run : List ℕ) (at : ℕ) (tail x : List ℕ) → at ≤ length run → tail ≡ put (take (length run - at) (drop at run)) 0 x
@@ -213,7 +210,7 @@ module _ {b : List ℕ} {link : ℕ} {label : carried.Label} {clock : ℕ} {line
       sent_next s = by_next (λ c left p k e.
           let one = chunk_out r.label c in
           let w : chunk_of label (read_cell d turn.place) ≡ one =
-          same_chunk g.of (read_cell d turn.place) ∙ ap (chunk_out r.label) (ap (read_cell d) e ∙ next-read h g.typed p) in
+          chunk-is g.of (read_cell d turn.place) ∙ ap (chunk_out r.label) (ap (read_cell d) e ∙ next-read h g.typed p) in
           let f : v ++ one ≡ chunks_out r.label (g.sent ++ (c ∷ [])) = sym (chunks-more r.label g.sent c) in
           record {
             here = h;

@@ -1,10 +1,10 @@
 -- The line, as a piece comes into it. Assumes nothing.
-use Prim.Native.Nat.{ℕ, zero, suc, ◌+◌, ◌-◌, ◌<◌}
+use Prim.Native.Nat.{ℕ, suc, ◌+◌, ◌-◌, ◌≤◌, ◌<◌}
 use native.Mathlib.Omega.{arith}
 use mathlib.Core.Path.{◌≡◌, refl, sym, ap, ◌∙◌}
-use mathlib.Core.List.{List, [], ◌∷◌, ◌++◌, append-nil}
-use lib.ListN.{length, take, drop, set, length-drop}
-use lib.Seq.{drop-length, take_all, take_at}
+use mathlib.Core.List.{List, [], ◌∷◌, ◌++◌, append_assoc}
+use lib.ListN.{length, get_or, take, drop, set, length-set}
+use lib.Seq.{drop-cons, drop-set-lt, take-suc-set, take_all, take_at}
 use lib.Dec.{ltb}
 use borrow.Author.Tests.{ltb-true, ltb-false}
 use Rattle.std.specs.Prelude.{Option, Some, None}
@@ -15,24 +15,32 @@ use Rattle.machine.specs.Choice.{most_sent}
 use Rattle.outbox.specs.declared.choice.Turn.{Turn}
 use Rattle.outbox.specs.Line.{goes_before, turn, put_in}
 
--- ---- a list whose end is turned to a place, and x written there: x has come in, and the last one is gone
+-- ---- those from a place on move up, one by one
 
--- what is left of a list without so many as stand behind its first: the last one
-last_one : {A : Type 0} (y : A) (l : List A) → (z : A) × (drop (length l) (y ∷ l) ≡ z ∷ [])
-last_one y [] = (y, refl)
-last_one y (x ∷ l) = last_one x l
+-- x at place `at` of the first line is what `moved` at i of this one is
+pub record Moving (line₀ : List (Option Turn)) (at : ℕ) (x : Option Turn) (line : List (Option Turn)) (moved : Option Turn) (i : ℕ) : Type 0 where
+  pub long : length line ≡ most_sent
+  pub gives : take most_sent (insert line i moved) ≡ take most_sent (insert line₀ at x)
 
-abbrev pub turned : {A : Type 0} → ℕ → ℕ → List A → List A
-turned n at l = take at l ++ (drop n (drop at l) ++ take n (drop at l))
+module _ {line₀ : List (Option Turn)} {at : ℕ} {x : Option Turn} {line : List (Option Turn)} {moved : Option Turn} {i : ℕ}
+    (g : Moving line₀ at x line moved i) where
+  pub move-on : i < most_sent → Moving line₀ at x (set line i moved) (get_or line i None) (i + 1)
+  move-on some =
+      let inside : i < length line = omega (arith, g.long) in
+      let e : suc i ≡ i + 1 = omega arith in
+      let before = take-suc-set line i moved inside in
+      let behind : get_or line i None ∷ drop (suc i) (set line i moved) ≡ drop i line =
+      ap (λ (l : List (Option Turn)). get_or line i None ∷ l) (drop-set-lt (suc i) line i moved (omega arith)) ∙ sym (drop-cons line i None inside) in
+      record {
+        long = length-set line i moved ∙ g.long;
+        gives = rw (← e) ((λ k. take most_sent (before k ++ behind k))
+            ∙ ap (take most_sent) (append_assoc (take i line) (moved ∷ []) (drop i line)) ∙ g.gives);
+      }
 
-pub turned_in : {A : Type 0} (at n : ℕ) (x : A) (l : List A) → at + suc n ≡ length l → set (turned n at l) at x ≡ take (length l) (insert l at x)
-turned_in zero n x [] h = absurd (omega arith)
-turned_in zero n x (y ∷ l) h =
-    let last = last_one y l in
-    let e : n ≡ length l = omega arith in
-    rw (e, last.1) refl
-turned_in (suc at) n x [] h = absurd (omega arith)
-turned_in (suc at) n x (y ∷ l) h = ap (λ m. y ∷ m) (turned_in at n x l (omega arith))
+  pub move-end : most_sent ≤ i → line ≡ take most_sent (insert line₀ at x)
+  move-end h =
+      sym (ap (λ (l : List (Option Turn)). take most_sent (l ++ (moved ∷ drop i line))) (take_all i line (omega (arith, g.long)))
+      ∙ take_at line (moved ∷ drop i line) most_sent g.long) ∙ g.gives
 
 -- ---- where a piece comes in
 
@@ -53,18 +61,8 @@ module _ (t : Turn) (line : List (Option Turn)) (long : length line ≡ most_sen
   pub inside : (i : ℕ) → position (goes_before t.rank) line ≡ Some i → i < most_sent
   inside i e = let p = cond_some (ltb at (length line)) at i e in omega (arith, ltb-true at (length line) p.0, p.1, long)
 
-  -- .. where those from i on are turned
-  pub comes : (i : ℕ) {turns : List (Option Turn)} → position (goes_before t.rank) line ≡ Some i
-      → (let l : List (Option Turn) = take (8 - i) (drop i line) in turns ≡ drop (length l - 1) l ++ take (length l - 1) l)
-      → set (take i line ++ (turns ++ drop (8 - i) (drop i line))) i (Some t) ≡ put_in t line
-  comes i e turns =
+  -- .. and those from i on move up
+  pub comes : (i : ℕ) → position (goes_before t.rank) line ≡ Some i → take most_sent (insert line i (Some t)) ≡ put_in t line
+  comes i e =
       let p = cond_some (ltb at (length line)) at i e in
-      let few = inside i e in
-      let left : length (drop i line) ≡ 8 - i = omega (arith, length-drop i line, long) in
-      let all : take (8 - i) (drop i line) ≡ drop i line = take_all (8 - i) (drop i line) (omega (arith, left)) in
-      let none : drop (8 - i) (drop i line) ≡ [] = ap (λ (n : ℕ). drop n (drop i line)) (sym left) ∙ drop-length (drop i line) in
-      let n : length (drop i line) - 1 ≡ 7 - i = omega (arith, left) in
-      ap (λ (l : List (Option Turn)). set (take i line ++ l) i (Some t))
-      ((λ j. turns j ++ none j) ∙ append-nil _ ∙ (λ j. drop (length (all j) - 1) (all j) ++ take (length (all j) - 1) (all j))
-      ∙ (λ j. drop (n j) (drop i line) ++ take (n j) (drop i line)))
-      ∙ turned_in i (7 - i) (Some t) line (omega (arith, few, long)) ∙ (λ j. take (long j) (insert line (sym p.1 j) (Some t)))
+      λ j. take most_sent (insert line (sym p.1 j) (Some t))

@@ -4,6 +4,7 @@ pub mod Sending
 pub mod Leaves
 pub mod HereLaws
 pub mod Left
+pub mod EntriesLaws
 pub mod Kinds
 pub mod RoomLaws
 pub mod PartlyLaws

@@ -1,7 +1,7 @@
 // Which pieces of a record a wake sends, and in which order: PROTOCOL, "The tablet". The chain of pieces is
 // walked once, and the first eight so far are kept in a line.
-ghost use Rattle.std.specs.Prelude.{◌≡◌, length};
-ghost use Rattle.std.specs.List.{position};
+ghost use Rattle.std.specs.Prelude.{◌≡◌, length, take, Some};
+ghost use Rattle.std.specs.List.{position, insert};
 ghost use Rattle.machine.specs.Choice.{waiting, most_sent};
 ghost use Rattle.outbox.specs.Line.{goes_before, put_in, line_of};
 
@@ -38,6 +38,20 @@ fn place_of(line: &Line, turn: Turn) -> Option<usize>
     line.iter().position(|other| turn.goes_before(*other))
 }
 
+// A piece comes into a place of the line: those from there on move up, and the last one goes. One by one: `rotate_right` would
+// call `memmove`, which the archive for C would need from outside.
+fn move_in(line: &mut Line, at: usize, turn: Turn)
+    requires { length line.old ≡ most_sent }
+    ensures { line.new ≡ take most_sent (insert line.old at (Some turn)) }
+{
+    let mut moved = Some(turn);
+    for i in at..MOST {
+        let old = line[i];
+        line[i] = moved;
+        moved = old;
+    }
+}
+
 // A piece comes into the line: those that it goes before move up, and of nine the last one goes.
 #[tactic(auto, using(crate::proofs::Lines::comes))]
 fn put_in(line: &mut Line, turn: Turn)
@@ -45,8 +59,7 @@ fn put_in(line: &mut Line, turn: Turn)
     ensures { line.new ≡ put_in turn line.old }
 {
     if let Some(at) = place_of(line, turn) {
-        line[at..].rotate_right(1);
-        line[at] = Some(turn);
+        move_in(line, at, turn);
     }
 }
 

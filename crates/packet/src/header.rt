@@ -6,10 +6,12 @@ ghost use Rattle.packet.specs.Frame.{has, kind_of, sent_kind, ack_kind, reply_fl
 ghost use Rattle.packet.specs.Frame.{id_size, body_at};
 ghost use Rattle.packet.specs.Outgoing.{header};
 
-// Bytes of the id, and the place of the flag byte behind it.
+// Bytes of the id, the place of the flag byte behind it, and that of the bytes behind that.
 pub const ID_SIZE: usize = 8;
 
 pub const FLAGS: usize = ID_SIZE;
+
+pub const REST: usize = FLAGS + 1;
 // Bytes of the header; the body starts behind it.
 pub const SIZE: usize = FLAGS + 4;
 

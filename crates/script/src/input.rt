@@ -87,8 +87,9 @@ pub fn parse(input: &[u8]) -> Option<Script<'_>>
     ensures { option_map (λ s. (s.length, s.letters.now)) result ≡ script_of input.now }
 {
     let (first, rest) = cut_line(input);
-    let (letters, behind) = cut_line(rest);
+    // before the second line is looked for: what is no length is refused at the cost of its own line
     let length = length(first)?;
+    let (letters, behind) = cut_line(rest);
     if letters.len() > MOST_LETTERS || !all_letters(letters) || !behind.is_empty() {
         return None;
     }

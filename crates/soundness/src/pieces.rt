@@ -55,7 +55,9 @@ pub struct Pieces<'a> {
 impl<'a> Store<'a> {
     ghost use Rattle.soundness.specs.Places.{places, pieces_left};
 
-    // Walks the chain of pieces of each of the records and marks their places.
+    // Walks the chain of pieces of each of the records and marks their places. Inline, as `records_fit` and `within`
+    // are: for a call the store and the records would be copied onto the stack.
+    #[inline(always)]
     #[tactic(auto, using(crate::proofs::Rests::marked))]
     pub fn pieces_marked(self, records: Records<'_>, marks: &mut [u8; STEPS]) -> bool
         ensures { let s = self.entry in

@@ -121,6 +121,7 @@ impl<'a> Store<'a> {
 
     // Whether each of the records has its pieces, and a key that neither a later one nor one of the others has; then
     // `counts` has the number of its pieces at its place.
+    #[inline(always)]
     #[tactic(auto, using(crate::proofs::Rests::records))]
     pub fn records_fit(
         self,

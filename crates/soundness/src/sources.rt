@@ -40,6 +40,7 @@ impl Store<'_> {
     }
 
     // Whether the source of each of the records holds at most its share: in it, the later ones and the others.
+    #[inline(always)]
     #[tactic(auto, using(crate::proofs::Rests::shares))]
     fn within(self, counts: &[u8; STEPS], mut records: Records<'_>, others: Records<'_>) -> bool
         ensures { let b = self.entry.bytes.now in

@@ -13,16 +13,21 @@ use rows::head::{Head, RECEIVE};
 use rows::record::{ARRIVING, LEAVING, STEPS, WHOLE};
 use rows::{Holds, cell};
 
-// The bytes of a store of a role, with a head that fits. A role may be any number, and a kind of records too: a caller's
-// and a store's byte may be any.
+// Bytes as long as a store of so many cells, read in a role. A role may be any number, and a kind of records too: a
+// caller's and a store's byte may be any.
 #[derive(Clone, Copy)]
 pub struct Store<'a> {
     pub bytes: &'a [u8],
     pub cells: usize,
     pub role: u64,
-    ghost fits: { head_fits role bytes.now ≡ true },
-    ghost counted: { cells ≡ get_or bytes.now count_at 0 },
     ghost room: { Room cells bytes.now },
+}
+
+// The kind of held records.
+pub fn held_kind(role: u64) -> u64
+    ensures { result ≡ held_kind role }
+{
+    if role == RECEIVE { ARRIVING } else { LEAVING }
 }
 
 impl<'a> Store<'a> {
@@ -30,7 +35,8 @@ impl<'a> Store<'a> {
     #[tactic(auto, using(crate::proofs::Whole::heads))]
     pub fn new(bytes: &'a [u8], role: u64) -> Option<Store<'a>>
         ensures { MatchOption result (head_fits role bytes.now ≡ false)
-            (λ s. (s.bytes.now ≡ bytes.now) × (s.role ≡ role)) }
+            (λ s. (head_fits role bytes.now ≡ true) × (s.bytes.now ≡ bytes.now) × (s.role ≡ role)
+            × (s.cells ≡ get_or bytes.now count_at 0)) }
     {
         if !rows::head::fits(bytes, role) {
             return None;
@@ -51,11 +57,7 @@ impl<'a> Store<'a> {
     pub fn held_kind(self) -> u64
         ensures { result ≡ held_kind self.entry.role }
     {
-        if self.role == RECEIVE {
-            ARRIVING
-        } else {
-            LEAVING
-        }
+        held_kind(self.role)
     }
 
     // Whether each record is in the one chain its kind names, and its row as asked.
@@ -98,6 +100,7 @@ impl<'a> Store<'a> {
     // Whether the store is sound.
     #[tactic(auto, using(crate::proofs::Whole::parts))]
     fn is_sound(self) -> bool
+        requires { (head_fits self.role self.bytes.now ≡ true) × (self.cells ≡ get_or self.bytes.now count_at 0) }
         ensures { result ≡ sound self.entry.role self.entry.bytes.now }
     {
         if !self.records_once() || !self.cells_once() {
@@ -118,5 +121,8 @@ impl<'a> Store<'a> {
 pub fn sound(store: &[u8], role: u64) -> bool
     ensures { result ≡ sound role store.now }
 {
-    Store::new(store, role).is_some_and(|store| store.is_sound())
+    match Store::new(store, role) {
+        Some(store) => store.is_sound(),
+        None => false,
+    }
 }

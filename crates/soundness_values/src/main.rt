@@ -146,6 +146,7 @@ fn sent(s: &mut [u8; 5400]) {
 // Whether a store to receive is sound with the byte at a set to v.
 fn with(s: &[u8; 5400], a: usize, v: u8) -> u8
     requires { a < 5400 }
+    ensures { result ≤ 1 }
 {
     let mut changed = *s;
     changed[a] = v;

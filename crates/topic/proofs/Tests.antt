@@ -1,5 +1,10 @@
 -- The tests of the definitions, over what an iterator gives, and the code's `==`; and what the iterator of entries gives. Assumes nothing.
-use Rattle.std.proofs.Common.{ℕ, ◌≡◌, refl, ap, ◌∙◌, map-id, Bool, ◌&&◌, ◌||◌, eqb, List, [], ◌∷◌, map}
+use Rattle.std.proofs.Common.{ℕ, zero, suc, ◌+◌, ◌-◌, ◌<◌, ◌≡◌, refl, sym, ap, ◌∙◌, subst, map-id, Bool, true, false, ◌&&◌, ◌||◌, eqb, List, [], ◌∷◌, ◌++◌, map}
+use Rattle.std.proofs.Common.{length, get_or, take, drop, arith, eq-eqb}
+use native.Mathlib.Numerals.{add-one}
+use lib.ListN.{length-drop}
+use lib.Seq.{take-suc, take_all}
+use Rattle.octets.specs.CompareLaws.{same-eq}
 use Rattle.std.specs.Cmp.Lexicographic.{pointwise}
 use Rattle.std.specs.List.{list_all, list_any}
 use Rattle.octets.specs.Lists.{all}
@@ -33,6 +38,42 @@ same-is [] [] = refl
 same-is [] (b ∷ y) = refl
 same-is (a ∷ x) [] = refl
 same-is (a ∷ x) (b ∷ y) = ap (λ (c : Bool). eqb a b && c) (same-is x y)
+
+-- the first i elements agree: so do the first i + 1, where the next ones are equal
+pub same_more : (l m : List ℕ) (i : ℕ) → length l ≡ length m → i < length l → take i l ≡ take i m → get_or l i 0 ≡ get_or m i 0 → take (i + 1) l
+    ≡ take (i + 1) m
+same_more l m i e h f g =
+    ap (λ (n : ℕ). take n l) (add-one i) ∙ take-suc l i 0 h
+    ∙ (λ j. f j ++ (g j ∷ []))
+    ∙ sym (take-suc m i 0 (omega (arith, e))) ∙ ap (λ (n : ℕ). take n m) (sym (add-one i))
+
+-- lists that differ at a place are not the same
+pub same_not : (l m : List ℕ) (i : ℕ) → (get_or l i 0 ≡ get_or m i 0 → ⊥) → same l m ≡ false
+same_not l m i h = go (same l m) refl
+  where
+    go : (p : Bool) → same l m ≡ p → p ≡ false
+    go true e = absurd (h (ap (λ (x : List ℕ). get_or x i 0) (same-eq l m e)))
+    go false e = refl
+
+-- behind elements that agree, the rest decides
+same_behind : (l m : List ℕ) (n : ℕ) → length l ≡ length m → take n l ≡ take n m → same (drop n l) (drop n m) ≡ same l m
+unfolding same
+same_behind l m zero e f = refl
+same_behind [] [] (suc n) e f = refl
+same_behind [] (y ∷ m) (suc n) e f = absurd (omega (arith, e))
+same_behind (x ∷ l) [] (suc n) e f = absurd (omega (arith, e))
+same_behind (x ∷ l) (y ∷ m) (suc n) e f =
+    let first : x ≡ y = ap (λ (k : List ℕ). get_or k 0 0) f in
+    let rest : take n l ≡ take n m = ap (drop 1) f in
+    same_behind l m n (omega (arith, e)) rest ∙ sym (rw (eq-eqb x y first))
+
+-- .. as the code has it: n elements were compared, i at the end of the loop
+pub same_rest : (l m : List ℕ) (i n : ℕ) → i ≡ n → length l ≡ length m → take i l ≡ take i m
+    → same (take (length l - n) (drop n l)) (take (length m - n) (drop n m)) ≡ same l m
+same_rest l m i n q e f =
+    let left = take_all (length l - n) (drop n l) (omega (arith, length-drop n l)) in
+    let right = take_all (length m - n) (drop n m) (omega (arith, length-drop n m)) in
+    (λ j. same (left j) (right j)) ∙ same_behind l m n e (subst (λ (k : ℕ). take k l ≡ take k m) q f)
 
 pub yields-entries : (s : Entries) → YieldsList (YieldsFirstBy held_entry held_entries) held_entry s (held_entries s)
 yields-entries s = YieldsList-from_first held_entry held_entries (held_entries s) refl

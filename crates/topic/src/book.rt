@@ -36,7 +36,7 @@ fn all_fit(mut entries: Entries) -> bool
 fn is_listed(mut entries: Entries, topic: &[u8]) -> bool
     ensures { result ≡ listed topic.now (held_entries entries.entry) }
 {
-    entries.any(|entry| entry.topic == topic)
+    entries.any(|entry| entry.is_of(topic))
 }
 
 // Whether no topic has two entries. Each is compared with all behind it: quadratic in the number of entries.
@@ -76,7 +76,7 @@ impl<'a> Book<'a> {
         ensures { result ≡ admitted (held_book self.now) topic.now source.now }
     {
         let mut entries = self.entries;
-        match entries.find(|entry| entry.topic == topic) {
+        match entries.find(|entry| entry.is_of(topic)) {
             Some(entry) => entry.admits(source),
             None => self.accepts,
         }

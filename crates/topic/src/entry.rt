@@ -2,8 +2,10 @@
 // address (16) and prefix bits (1).
 ghost use Rattle.std.specs.Prelude.{◌≡◌, true, leb, option_map, length, drop};
 ghost use Rattle.std.specs.Bool.{then_some};
+ghost use Rattle.octets.specs.Octets.{same};
 ghost use Rattle.topic.specs.Book.{entry_at, end_at, entries_from, uncut, fits, within};
 
+use crate::same::is_same;
 use crate::subnet::{ADDRESS_BYTES, PREFIX_MOST, contains};
 
 // The bytes of a subnet.
@@ -31,6 +33,13 @@ impl<'a> Entry<'a> {
         let (subnets, rest) = rest.split_at_checked(SUBNET_BYTES * usize::from(count))?;
         let (subnets, _) = subnets.as_chunks();
         Some((Entry { topic, subnets }, rest))
+    }
+
+    // Whether it is the entry of the topic.
+    pub fn is_of(&self, topic: &[u8]) -> bool
+        ensures { result ≡ same (held_entry self.now).topic topic.now }
+    {
+        is_same(self.topic, topic)
     }
 
     // Whether each subnet has prefix bits to 128.

@@ -6,6 +6,7 @@
 
 mod book;
 mod entry;
+mod same;
 pub mod subnet;
 
 ghost use Rattle.std.specs.Prelude.{◌≡◌};

@@ -2,6 +2,8 @@
 ghost use Rattle.std.specs.Prelude.{◌≡◌, ◌-◌, ◌/◌, ◌^◌, ◌<◌, ◌≤◌, length, eqb};
 ghost use Rattle.topic.specs.Subnet.{address_bytes, prefix_most, inside, contains_of};
 
+use crate::same::is_same;
+
 // The bytes of an address, and the most bits of a prefix.
 pub const ADDRESS_BYTES: usize = 16;
 
@@ -24,7 +26,7 @@ fn agree(a: &[u8], net: &[u8], bits: u8) -> bool
 {
     let whole = usize::from(bits / 8);
     let rest = bits % 8;
-    a[..whole] == net[..whole] && (rest == 0 || alike(a[whole], net[whole], rest))
+    is_same(&a[..whole], &net[..whole]) && (rest == 0 || alike(a[whole], net[whole], rest))
 }
 
 // Whether `source` lies in the subnet of `net` and `bits`. A net that has not 16 bytes, or more than 128 bits, is no subnet

@@ -2,5 +2,5 @@
 use Rattle.std.proofs.Common.{◌≤◌}
 use Rattle.blake3_vectors.proofs.run.Given as goal
 
-abbrev pub invariant-loop-vector : goal.invariant-loop-vector
-invariant-loop-vector g l = l.right ≤ l.vector-index
+abbrev pub invariant-loop-line : goal.invariant-loop-line
+invariant-loop-line g l = l.right ≤ l.line-index

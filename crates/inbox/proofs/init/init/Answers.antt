@@ -62,7 +62,7 @@ open_arriving-requires c =
     let s = (goal.at.open_arriving-requires c).Start in
     let b = c.args.recv.now in
     let y : Bytes b = search rules in
-    let held = c.in_default.ensures in
+    let held = rw c.in_default.is at c.find-found.ensures in
     let clear = refusal-clear (place s) refl (sym c.in_ok-refusal.ensures) in
     record {
       sound = c.requires.0;
@@ -75,23 +75,23 @@ open_arriving-requires c =
 pub returns-in_default : goal.returns-in_default
 returns-in_default c =
     done _ _ _ _ (both-rows (goal.at.returns-in_default c).Start c.in_ok-rules_refusal.ensures c.in_ok-refusal.ensures)
-    (rw c.in_default.ensures c.open_arriving.ensures)
+    (let held = rw c.in_default.is at c.find-found.ensures in rw held c.open_arriving.ensures)
 
 pub returns-then-says_again : goal.returns-then-says_again
 returns-then-says_again c =
-    let f = c.in-Some.ensures in
+    let f = rw c.in-Some.is at c.find-found.ensures in
     let again = compared _ _ _ _ c.args.label c.args.topic.now _ f.0 f.2 c.says_again.ensures in
     done _ _ _ _ (both-rows (goal.at.returns-then-says_again c).Start c.in_ok-rules_refusal.ensures c.in_ok-refusal.ensures)
     (rw (sym again ∙ c.if-says_again.true) (sym (sound-valid role_receive _ (search rules) c.requires.0).1))
 
 pub restart-requires : goal.restart-requires
 restart-requires c =
-    let f = c.in-Some.ensures in
+    let f = rw c.in-Some.is at c.find-found.ensures in
     (f.1, sym f.3, fine (goal.at.restart-requires c).Start c.in_ok-refusal.ensures c.requires.1)
 
 pub returns : goal.returns
 returns c =
-    let f = c.in-Some.ensures in
+    let f = rw c.in-Some.is at c.find-found.ensures in
     let differs = compared _ _ _ _ c.args.label c.args.topic.now _ f.0 f.2 c.says_again.ensures in
     done _ _ _ _ (both-rows (goal.at.returns c).Start c.in_ok-rules_refusal.ensures c.in_ok-refusal.ensures)
     (rw (sym differs ∙ c.if-says_again.false) (rw f.2 c.restart.ensures))

@@ -65,7 +65,9 @@ pub fn join(pieces: Pieces<'_>, out: &mut [u8]) -> usize
     at
 }
 
-// The sum of the pieces, joined.
+// The sum of the pieces, joined. It is not inlined: its buffer would take 32,500 bytes of stack in each step of a packet
+// and in each wake.
+#[inline(never)]
 pub fn sum(pieces: Pieces<'_>) -> [u8; 32]
     requires { sizes (pieces_left pieces) ≤ longest }
     ensures { let all = pieces_left pieces.entry in
